@@ -2,7 +2,7 @@
 #![tactic(auto)]
 
 use ot_io::{DirFiles, StdSink, StdSource, write_whole};
-use ot_plain::Memory;
+use ot_logic::Memory;
 use ot_program::{OUT_OF_MEMORY, Status, run};
 use std::process::ExitCode;
 use std::{env, io};

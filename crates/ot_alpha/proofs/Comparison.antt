@@ -2,10 +2,10 @@
 use Rattle.std.proofs.Common.{◌≡◌, ℕ, ◌<◌, nat_eq, List, length, ap}
 use Rattle.std.specs.Bool.{Decides}
 use Rattle.std.proofs.lemmas.Bool.Decides.{same_from_decides, Decides-eqb}
-use Rattle.ot_plain.specs.Trees.{Ty, TyVar}
-use Rattle.ot_plain.specs.Hol.{same_ty}
-use Rattle.ot_plain.specs.Naming.{numbers}
-use Rattle.ot_plain.proofs.TableLemmas.{get_or-IsInjective}
+use Rattle.ot_logic.specs.Trees.{Ty, TyVar}
+use Rattle.ot_logic.specs.Hol.{same_ty}
+use Rattle.ot_logic.specs.Naming.{numbers}
+use Rattle.ot_logic.proofs.TableLemmas.{get_or-IsInjective}
 use Rattle.ot_type.specs.TypeTable.{type_at, IsTypeTable}
 use Rattle.ot_laws.proofs.Tests.{same_ty-is, tells_numbers}
 

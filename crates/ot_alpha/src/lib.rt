@@ -2,8 +2,8 @@
 #![tactic(auto)]
 
 ghost use Rattle.std.specs.Prelude.{◌≡◌, ◌<◌, ◌↔◌, length, IsTrue};
-ghost use Rattle.ot_plain.specs.Hol.{nameless};
-ghost use Rattle.ot_plain.specs.Naming.{numbers};
+ghost use Rattle.ot_logic.specs.NamedTerms.{nameless};
+ghost use Rattle.ot_logic.specs.Naming.{numbers};
 ghost use Rattle.ot_term.specs.TermTable.{term_at};
 
 use ot_term::{TermId, Terms};

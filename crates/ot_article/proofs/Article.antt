@@ -5,13 +5,13 @@ use Rattle.std.proofs.lemmas.List.{append-nil, map_push}
 use Rattle.std.proofs.lemmas.Bool.Decides.{eqb_tells}
 use Rattle.std.specs.Bool.{Decides}
 use Rattle.std.specs.List.{flat_map}
-use Rattle.ot_plain.specs.Names.{Name}
-use Rattle.ot_plain.specs.Naming.{names}
-use Rattle.ot_plain.specs.Hol.{theorems}
-use Rattle.ot_plain.specs.Trees.{Definition}
-use Rattle.ot_plain.specs.Lists.{IsMember}
-use Rattle.ot_plain.specs.declared.command.Cmd.{Cmd}
-use Rattle.ot_plain.specs.declared.command.Cmd.TheVariants as words
+use Rattle.ot_logic.specs.Names.{Name}
+use Rattle.ot_logic.specs.Naming.{names}
+use Rattle.ot_logic.specs.Hol.{theorems}
+use Rattle.ot_logic.specs.Trees.{Definition}
+use Rattle.ot_logic.specs.Lists.{IsMember}
+use Rattle.ot_logic.specs.declared.command.Cmd.{Cmd}
+use Rattle.ot_logic.specs.declared.command.Cmd.TheVariants as words
 use Rattle.ot_trace.specs.Origins.{Origin, Origins, Number, Named, Make, Define, Outcome, NoOrigins, MoreOrigins}
 use Rattle.ot_machine.specs.Objects.{Object, list, term, theorem}
 use Rattle.ot_machine.specs.States.{Entry, Export, Made}
@@ -31,8 +31,8 @@ use Rattle.ot_article.proofs.Fewer.{definition-less}
 use Rattle.ot_article.proofs.Simulated.{made_by, defined_by, IsWritten}
 use Rattle.ot_article.proofs.Making.{declare-written, pops-written, outcomes-written, export-written}
 use Rattle.ot_article.proofs.Emitted.{IsClean, clean-front, paired, paired-is, emit-runs, emit_all-runs}
-use Rattle.ot_plain.proofs.Members.{IsMember-cases, IsMember-last}
-use Rattle.ot_plain.proofs.Results.{bind-ok}
+use Rattle.ot_logic.proofs.Members.{IsMember-cases, IsMember-last}
+use Rattle.ot_logic.proofs.Results.{bind-ok}
 
 module _ (same : Origin Name → Origin Name → Bool) (keep : Origin Name → Bool) where
   -- the definitions among what a text made

@@ -4,10 +4,10 @@ use Rattle.std.proofs.Common.{map, slice_get, Some, refl, sym, ap, subst, ◌∙
 use Rattle.std.specs.Prelude.{ℤ}
 use Rattle.std.specs.Bool.{Decides}
 use Rattle.std.specs.List.{All, flat_map}
-use Rattle.ot_plain.specs.Names.{Name}
-use Rattle.ot_plain.specs.Naming.{names}
-use Rattle.ot_plain.specs.Hol.{same_sequent}
-use Rattle.ot_plain.specs.Lists.{IsMember, AreDistinct}
+use Rattle.ot_logic.specs.Names.{Name}
+use Rattle.ot_logic.specs.Naming.{names}
+use Rattle.ot_logic.specs.Hol.{same_sequent}
+use Rattle.ot_logic.specs.Lists.{IsMember, AreDistinct}
 use Rattle.ot_scan.specs.Words.{is_in_range}
 use Rattle.ot_trace.specs.Origins.{Origin, Number, Named, Make, Define, Outcome, parts}
 use Rattle.ot_trace.specs.Reach.{IsReached}
@@ -39,7 +39,7 @@ use Rattle.ot_article.proofs.Fewer.{definition-less}
 use Rattle.ot_article.proofs.Numberless.{numberless, defined-numberless, each-pure, term-pure}
 use Rattle.ot_article.proofs.FromLawful.{are-writable, are-exports, roots-rest, roots-exports}
 use Rattle.ot_article.proofs.Whole.{written-law}
-use Rattle.ot_plain.proofs.Members.{All-at_member, IsMember-cases}
+use Rattle.ot_logic.proofs.Members.{All-at_member, IsMember-cases}
 
 module _ (IsNamed : Name → Type 0) (same : Origin Name → Origin Name → Bool)
     (same-is : (a b : Origin Name) → Decides (same a b) (a ≡ b)) (r : RunState) (es : List Export)

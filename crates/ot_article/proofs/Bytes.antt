@@ -11,11 +11,11 @@ use Rattle.std.proofs.lemmas.Fmt.{digits_decimal, decimal_nonempty, length-decim
 use Rattle.ot_article.proofs.Making.{last_of}
 use Rattle.std.proofs.lemmas.Bool.Decides.{nat_tests, eqb_tells}
 use Rattle.std.proofs.lemmas.Bool.{and_parts}
-use Rattle.ot_plain.specs.Lists.{IsMember}
-use Rattle.ot_plain.specs.Names.{Name, spelled, joined, item_of}
-use Rattle.ot_plain.specs.Commands.{spelling}
-use Rattle.ot_plain.specs.declared.command.Cmd.{Cmd}
-use Rattle.ot_plain.specs.declared.command.Cmd.TheVariants as words
+use Rattle.ot_logic.specs.Lists.{IsMember}
+use Rattle.ot_logic.specs.Names.{Name, spelled, joined, item_of}
+use Rattle.ot_logic.specs.Commands.{spelling}
+use Rattle.ot_logic.specs.declared.command.Cmd.{Cmd}
+use Rattle.ot_logic.specs.declared.command.Cmd.TheVariants as words
 use Rattle.ot_lines.specs.Pieces.{pieces, onto_first, without_last, is_blank}
 use Rattle.ot_lines.specs.Pieces.{trim_front, trim_back, text_of, is_skipped}
 use Rattle.ot_scan.specs.Lines.{Lines, limit_fault, lines_after, lines_of}
@@ -27,15 +27,15 @@ use Rattle.ot_written.specs.Written.{Line, Numeral, Spelled, Order}
 use Rattle.ot_article.proofs.LineRun.{run, line_step, command, marks, marks_after}
 use Rattle.ot_machine.specs.Marks as machine
 use Rattle.ot_machine.specs.Marks.{mark, marks_of}
-use Rattle.ot_plain.specs.Faults.{Fault}
+use Rattle.ot_logic.specs.Faults.{Fault}
 use Rattle.ot_trace.specs.Origins.{Origin}
-use Rattle.ot_plain.specs.Answers.{◌>>=◌}
+use Rattle.ot_logic.specs.Answers.{◌>>=◌}
 use Rattle.ot_machine.specs.Run as articles
 use Rattle.ot_written.specs.Bytes.{line_text, line_bytes, bytes_of}
 use Rattle.ot_article.proofs.LineRun.{IsReadable, AreReadable}
 use Rattle.ot_article.proofs.LineTexts.{all_digits, digit-range, decimal-read}
 use Rattle.ot_article.proofs.LineTexts.{negative-read, range-pos, range-neg, order-read, name-back, spelled-read}
-use Rattle.ot_plain.proofs.Results.{bind-ok}
+use Rattle.ot_logic.proofs.Results.{bind-ok}
 
 -- ---- pieces
 

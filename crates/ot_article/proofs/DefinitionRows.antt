@@ -1,14 +1,14 @@
 -- What the definition rows do on a stack that ends with their operands.
 use Rattle.std.proofs.Common.{◌≡◌, List, [], ◌∷◌, ◌++◌, length, map, Ok, refl, sym, subst, ◌∙◌, arith}
 use Rattle.std.specs.List.{list_all}
-use Rattle.ot_plain.specs.Names.{Name}
-use Rattle.ot_plain.specs.Naming.{names}
-use Rattle.ot_plain.specs.Trees.{Variable, Tm, App, Sequent, Definition, ConDef, ListDef, TyDef}
-use Rattle.ot_plain.specs.Hol.{is_shallow_sequent, theorems, theorems_at}
-use Rattle.ot_plain.specs.Faults.{Fault, NotApplication, HypothesesPresent, Nesting}
-use Rattle.ot_plain.specs.Answers.{◌>>=◌, some_or, unless}
-use Rattle.ot_plain.specs.declared.command.Cmd.{Cmd}
-use Rattle.ot_plain.specs.declared.command.Cmd.TheVariants as words
+use Rattle.ot_logic.specs.Names.{Name}
+use Rattle.ot_logic.specs.Naming.{names}
+use Rattle.ot_logic.specs.Trees.{Variable, Tm, App, Sequent, Definition, ConDef, ListDef, TyDef}
+use Rattle.ot_logic.specs.Hol.{is_shallow_sequent, theorems, theorems_at}
+use Rattle.ot_logic.specs.Faults.{Fault, NotApplication, HypothesesPresent, Nesting}
+use Rattle.ot_logic.specs.Answers.{◌>>=◌, some_or, unless}
+use Rattle.ot_logic.specs.declared.command.Cmd.{Cmd}
+use Rattle.ot_logic.specs.declared.command.Cmd.TheVariants as words
 use Rattle.ot_trace.specs.Origins.{Origin, Named, Make, Define, NoOrigins, MoreOrigins, renamed_first, renamed_pairs}
 use Rattle.ot_interp.specs.Interpretation.{renamed}
 use Rattle.ot_machine.specs.Objects.{Objects}
@@ -24,7 +24,7 @@ use Rattle.ot_article.proofs.Operands.{const_given, list_given, type_given, give
 use Rattle.ot_written.specs.Written.{theorem_count, symbol_count}
 use Rattle.ot_article.proofs.Frames.{objects_of, entry-here, dropped-here}
 use Rattle.ot_article.proofs.RowsHere.{with_stack, AreFit, origin-name}
-use Rattle.ot_plain.proofs.Results.{bind-ok}
+use Rattle.ot_logic.proofs.Results.{bind-ok}
 
 -- ---- how many theorems a definition has
 

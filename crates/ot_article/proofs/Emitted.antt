@@ -3,9 +3,9 @@ use Rattle.std.proofs.Common.{◌≡◌, ℕ, Bool, List, [], ◌∷◌, ◌++�
 use Rattle.std.proofs.Common.{Some, Ok, refl, sym, ap, subst, ◌∙◌, append_assoc}
 use Rattle.std.proofs.lemmas.List.{append-nil}
 use Rattle.std.specs.Bool.{Decides}
-use Rattle.ot_plain.specs.Names.{Name}
-use Rattle.ot_plain.specs.Lists.{IsMember, AreDistinct}
-use Rattle.ot_plain.specs.Answers.{◌>>=◌}
+use Rattle.ot_logic.specs.Names.{Name}
+use Rattle.ot_logic.specs.Lists.{IsMember, AreDistinct}
+use Rattle.ot_logic.specs.Answers.{◌>>=◌}
 use Rattle.ot_trace.specs.Origins.{Origin, Origins, Number, Named, Make, Define, Outcome, NoOrigins, MoreOrigins}
 use Rattle.ot_machine.specs.Objects.{Object, number, name}
 use Rattle.ot_machine.specs.States.{Entry, Export}
@@ -23,8 +23,8 @@ use Rattle.ot_article.proofs.Frames.{objects_of, entry}
 use Rattle.ot_article.proofs.RowsHere.{AreFit}
 use Rattle.ot_article.proofs.Simulated.{IsWritten, number-written, name-written, recall-written}
 use Rattle.ot_article.proofs.Making.{word-written, stored-where}
-use Rattle.ot_plain.proofs.Members.{IsMember-left}
-use Rattle.ot_plain.proofs.Results.{bind-ok}
+use Rattle.ot_logic.proofs.Members.{IsMember-left}
+use Rattle.ot_logic.proofs.Results.{bind-ok}
 
 -- what a text made is distinct, and its axioms are apart
 pub record IsClean (ms : List (Origin Name)) : Type 0 where

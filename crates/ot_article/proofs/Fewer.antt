@@ -3,16 +3,16 @@ use Rattle.std.proofs.Common.{◌≡◌, ℕ, ◌==◌, inl, inr, Bool, true, fa
 use Rattle.std.proofs.Common.{◌∷◌, length, map, Result, Ok, Err, refl, sym, ◌∙◌, true≢false}
 use Rattle.std.specs.Prelude.{◌||◌, ◌&&◌}
 use Rattle.std.specs.List.{list_any, flat_map}
-use Rattle.ot_plain.specs.Lists.{IsPart}
-use Rattle.ot_plain.specs.Names.{Name}
-use Rattle.ot_plain.specs.Naming.{names}
-use Rattle.ot_plain.specs.Trees.{Variable, Tm, Sequent, Symbol, ConSymbol, OpSymbol, Definition}
-use Rattle.ot_plain.specs.Hol.{same_var, symbols_tm, symbols_of, primitives, defined, used, vars_tm}
-use Rattle.ot_plain.specs.Faults.{Fault, StackEmpty, Primitive, AlreadyDefined, SymbolInUse}
-use Rattle.ot_plain.specs.Faults.{BadDefinitionList, HypothesesPresent, NotApplication, BadTypeVars}
-use Rattle.ot_plain.specs.Answers.{◌>>=◌, unless, some_or}
-use Rattle.ot_plain.specs.declared.command.Cmd.{Cmd}
-use Rattle.ot_plain.specs.declared.command.Cmd.TheVariants as words
+use Rattle.ot_logic.specs.Lists.{IsPart}
+use Rattle.ot_logic.specs.Names.{Name}
+use Rattle.ot_logic.specs.Naming.{names}
+use Rattle.ot_logic.specs.Trees.{Variable, Tm, Sequent, Symbol, ConSymbol, OpSymbol, Definition}
+use Rattle.ot_logic.specs.Hol.{same_var, symbols_tm, symbols_of, primitives, defined, used, vars_tm}
+use Rattle.ot_logic.specs.Faults.{Fault, StackEmpty, Primitive, AlreadyDefined, SymbolInUse}
+use Rattle.ot_logic.specs.Faults.{BadDefinitionList, HypothesesPresent, NotApplication, BadTypeVars}
+use Rattle.ot_logic.specs.Answers.{◌>>=◌, unless, some_or}
+use Rattle.ot_logic.specs.declared.command.Cmd.{Cmd}
+use Rattle.ot_logic.specs.declared.command.Cmd.TheVariants as words
 use Rattle.ot_laws.specs.Conditions.{is_among, same_symbol, refuse_first, refuse_defined}
 use Rattle.ot_laws.specs.Conditions.{checked_symbols, checked_const, checked_list, checked_type}
 use Rattle.ot_laws.specs.Conditions.{are_distinct, terms_given, is_empty, function_of, are_names_of}
@@ -23,7 +23,7 @@ use Rattle.ot_trace.specs.Origins.{Origin, Define}
 use Rattle.ot_machine.specs.Makers.{Read}
 use Rattle.ot_machine.specs.Values.{values, definition_of, defined_by, value_at, definition_arity}
 use Rattle.ot_written.proofs.Filters.{bool_cases, any-to, any-from, member-flat_map, flat_map-member}
-use Rattle.ot_plain.proofs.Results.{bind-ok, bind-to, bind-under}
+use Rattle.ot_logic.proofs.Results.{bind-ok, bind-to, bind-under}
 
 bind-first : {A B E : Type 0} (r s : Result A E) (f : A → Result B E) (b : B) → ((a : A) → r ≡ Ok a → s ≡ Ok a)
     → (r >>= f) ≡ Ok b → (s >>= f) ≡ Ok b

@@ -4,9 +4,9 @@ use Rattle.std.proofs.Common.{map, slice_get, Some, Ok, refl, ap, ◌∙◌, ari
 use Rattle.std.proofs.lemmas.List.{take_at, drop_at}
 use Rattle.std.proofs.lemmas.Bool.Decides.{nat_tests}
 use Rattle.std.specs.Prelude.{nat_lt}
-use Rattle.ot_plain.specs.Names.{Name}
-use Rattle.ot_plain.specs.Faults.{StackEmpty}
-use Rattle.ot_plain.specs.Answers.{some_or}
+use Rattle.ot_logic.specs.Names.{Name}
+use Rattle.ot_logic.specs.Faults.{StackEmpty}
+use Rattle.ot_logic.specs.Answers.{some_or}
 use Rattle.ot_trace.specs.Origins.{Origin}
 use Rattle.ot_machine.specs.Objects.{Object}
 use Rattle.ot_machine.specs.States.{Entry}
@@ -14,7 +14,7 @@ use Rattle.ot_machine.specs.Places.{entry_at, object_at, dropped, top, origins_o
 use Rattle.ot_machine.specs.Makers.{Maker, of_none, of_top, of_two, no_maker, maker, arity, made_by}
 use Rattle.ot_machine.specs.Rows.{made, making}
 use Rattle.ot_article.proofs.Operands.{made_of}
-use Rattle.ot_plain.specs.declared.command.Cmd.{Cmd}
+use Rattle.ot_logic.specs.declared.command.Cmd.{Cmd}
 use Rattle.ot_trace.specs.Origins as o
 
 -- the objects of entries

@@ -7,14 +7,14 @@ use Rattle.std.proofs.lemmas.Bool.Decides.{nat_tests}
 use Rattle.std.specs.Prelude.{◌&&◌, ◌||◌}
 use Rattle.std.specs.Bool.{Decides}
 use Rattle.std.specs.List.{All, flat_map}
-use Rattle.ot_plain.specs.Names.{Name}
-use Rattle.ot_plain.specs.Naming.{names}
-use Rattle.ot_plain.specs.Hol.{theorems, same_sequent}
-use Rattle.ot_plain.specs.Trees.{Sequent, Definition}
-use Rattle.ot_plain.specs.Faults.{Fault, StackEmpty}
-use Rattle.ot_plain.specs.Answers.{◌>>=◌, some_or}
-use Rattle.ot_plain.specs.Lists.{IsMember, IsPart}
-use Rattle.ot_plain.specs.declared.command.Cmd.{Cmd}
+use Rattle.ot_logic.specs.Names.{Name}
+use Rattle.ot_logic.specs.Naming.{names}
+use Rattle.ot_logic.specs.Hol.{theorems, same_sequent}
+use Rattle.ot_logic.specs.Trees.{Sequent, Definition}
+use Rattle.ot_logic.specs.Faults.{Fault, StackEmpty}
+use Rattle.ot_logic.specs.Answers.{◌>>=◌, some_or}
+use Rattle.ot_logic.specs.Lists.{IsMember, IsPart}
+use Rattle.ot_logic.specs.declared.command.Cmd.{Cmd}
 use Rattle.ot_trace.specs.Origins.{Origin, Origins, Number, Named, Make, Define}
 use Rattle.ot_trace.specs.Origins.{Outcome, NoOrigins, MoreOrigins, listed, operands}
 use Rattle.ot_machine.specs.Objects.{Object, theorem}
@@ -45,10 +45,10 @@ use Rattle.ot_article.proofs.Emitted.{paired, paired-is}
 use Rattle.ot_article.proofs.Fewer.{definition-less}
 use Rattle.ot_written.proofs.NeededLaw.{among-to, among-from}
 use Rattle.ot_article.proofs.Rests.{define-of}
-use Rattle.ot_plain.proofs.Elements.{slice_get-low}
-use Rattle.ot_plain.proofs.Members.{All-at_member, IsMember-cases, IsMember-left, IsMember-right, IsPart-map}
-use Rattle.ot_plain.proofs.Results.{bind-ok}
-use Rattle.ot_plain.proofs.TableLemmas.{slice_get-append_left}
+use Rattle.ot_logic.proofs.Elements.{slice_get-low}
+use Rattle.ot_logic.proofs.Members.{All-at_member, IsMember-cases, IsMember-left, IsMember-right, IsPart-map}
+use Rattle.ot_logic.proofs.Results.{bind-ok}
+use Rattle.ot_logic.proofs.TableLemmas.{slice_get-append_left}
 
 abbrev made_origin : Made → Origin Name
 made_origin m = m.origin

@@ -2,7 +2,7 @@
 use Rattle.std.proofs.Common.{◌≡◌, Bool, not, List, [], ◌∷◌, refl, sym, ap, ◌∙◌}
 use Rattle.std.specs.Bool.{Decides}
 use Rattle.std.specs.List.{filter}
-use Rattle.ot_plain.specs.Names.{Name}
+use Rattle.ot_logic.specs.Names.{Name}
 use Rattle.ot_trace.specs.Origins.{Origin}
 use Rattle.ot_machine.specs.States.{Made}
 use Rattle.ot_written.specs.Needed.{firsts, firsts_by, needed_definitions}

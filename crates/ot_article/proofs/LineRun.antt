@@ -1,8 +1,8 @@
 -- The run of the lines of a text in the empty context, and the marks of the lines.
 use Rattle.std.specs.Prelude.{◌≡◌, true, List, [], ◌∷◌, ◌++◌, Result, Ok, Err}
-use Rattle.ot_plain.specs.Names.{Name}
-use Rattle.ot_plain.specs.Faults.{Fault}
-use Rattle.ot_plain.specs.Answers.{◌>>=◌}
+use Rattle.ot_logic.specs.Names.{Name}
+use Rattle.ot_logic.specs.Faults.{Fault}
+use Rattle.ot_logic.specs.Answers.{◌>>=◌}
 use Rattle.ot_scan.specs.Words.{is_in_range}
 use Rattle.ot_trace.specs.Origins.{Origin, Number, Named}
 use Rattle.ot_machine.specs.States.{State, Context, no_context}

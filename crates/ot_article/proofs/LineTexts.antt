@@ -11,14 +11,14 @@ use Rattle.std.proofs.lemmas.Fmt.{first_decimal, decimal_nonempty, decimal_digit
 use Rattle.std.proofs.lemmas.Str.Parse.{IsNumeralModel, numerals_by_value}
 use Rattle.std.proofs.lemmas.Bool.Decides.{nat_tests, eqb_tells}
 use Rattle.std.proofs.lemmas.Bool.{and_parts}
-use Rattle.ot_plain.specs.Names.{Name, IsName, spelled}
-use Rattle.ot_plain.specs.Reading.{name_read}
-use Rattle.ot_plain.specs.Commands.{spelling}
-use Rattle.ot_plain.specs.declared.command.Cmd.{Cmd}
-use Rattle.ot_plain.specs.declared.command.Cmd.TheVariants as words
+use Rattle.ot_logic.specs.Names.{Name, IsName, spelled}
+use Rattle.ot_logic.specs.Reading.{name_read}
+use Rattle.ot_logic.specs.Commands.{spelling}
+use Rattle.ot_logic.specs.declared.command.Cmd.{Cmd}
+use Rattle.ot_logic.specs.declared.command.Cmd.TheVariants as words
 use Rattle.ot_scan.specs.Words.{word, Numeral, Quoted, Order, positive, is_in_range}
-use Rattle.ot_plain.proofs.Reading.{spells-name_read}
-use Rattle.ot_plain.proofs.Spelling.{spelled-plain}
+use Rattle.ot_logic.proofs.Reading.{spells-name_read}
+use Rattle.ot_logic.proofs.Spelling.{spelled-plain}
 
 -- ---- numbers
 

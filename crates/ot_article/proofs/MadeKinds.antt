@@ -1,14 +1,14 @@
 -- Each word makes objects of one kind.
 use Rattle.std.proofs.Common.{◌≡◌, zero, suc, Bool, true, false, List, [], ◌∷◌, Result, Ok, Err, refl, sym, ap, ◌∙◌}
-use Rattle.ot_plain.specs.Names.{Name}
-use Rattle.ot_plain.specs.Naming.{names}
-use Rattle.ot_plain.specs.Faults.{Fault, StackEmpty, Nesting}
-use Rattle.ot_plain.specs.Answers.{◌>>=◌, some_or}
-use Rattle.ot_plain.specs.Hol.{theorems, depth_limit}
-use Rattle.ot_plain.specs.declared.command.Cmd.{Cmd}
-use Rattle.ot_plain.specs.declared.command.Cmd.TheVariants as words
-use Rattle.ot_plain.specs.declared.kind.Kind.{Kind}
-use Rattle.ot_plain.specs.declared.kind.Kind.TheVariants as kinds
+use Rattle.ot_logic.specs.Names.{Name}
+use Rattle.ot_logic.specs.Naming.{names}
+use Rattle.ot_logic.specs.Faults.{Fault, StackEmpty, Nesting}
+use Rattle.ot_logic.specs.Answers.{◌>>=◌, some_or}
+use Rattle.ot_logic.specs.Hol.{theorems, depth_limit}
+use Rattle.ot_logic.specs.declared.command.Cmd.{Cmd}
+use Rattle.ot_logic.specs.declared.command.Cmd.TheVariants as words
+use Rattle.ot_logic.specs.declared.kind.Kind.{Kind}
+use Rattle.ot_logic.specs.declared.kind.Kind.TheVariants as kinds
 use Rattle.ot_trace.specs.Origins.{Origin, Number, Named, Make, Define, Outcome}
 use Rattle.ot_machine.specs.Objects.{Object, kind_of, nesting, name, list, type_op, a_type}
 use Rattle.ot_machine.specs.Objects.{constant, variable, term, theorem, more_objects}
@@ -16,16 +16,16 @@ use Rattle.ot_machine.specs.Places.{as_name, as_list, as_type_op, as_type, as_co
 use Rattle.ot_machine.specs.Places.{as_variable, as_term, as_theorem, as_each, arguments}
 use Rattle.ot_machine.specs.Substitutions.{maps_of}
 use Rattle.ot_kernel.specs.Axioms.{axiom_rule}
-use Rattle.ot_plain.specs.Rules.{op_rule, app_rule, abs_rule, refl_rule, assume_rule, eq_mp_rule}
-use Rattle.ot_plain.specs.Rules.{abs_thm_rule, app_thm_rule, deduct_antisym_rule, beta_conv_rule}
-use Rattle.ot_plain.specs.Rules.{subst_rule, sym_rule, trans_rule, prove_hyp_rule}
-use Rattle.ot_plain.specs.Trees.{TyVar, Free, Con, Sequent}
+use Rattle.ot_logic.specs.Rules.{op_rule, app_rule, abs_rule, refl_rule, assume_rule, eq_mp_rule}
+use Rattle.ot_logic.specs.Rules.{abs_thm_rule, app_thm_rule, deduct_antisym_rule, beta_conv_rule}
+use Rattle.ot_logic.specs.Rules.{subst_rule, sym_rule, trans_rule, prove_hyp_rule}
+use Rattle.ot_logic.specs.Trees.{TyVar, Free, Con, Sequent}
 use Rattle.std.specs.Prelude.{if◌then◌else◌, nat_le, slice_get}
 use Rattle.ot_machine.specs.Makers.{Read, Maker, of_none, of_top, of_two, no_maker}
 use Rattle.ot_machine.specs.Makers.{maker, one_theorem_made, two_theorems_made}
 use Rattle.ot_machine.specs.Values.{applied, value, values, definition_of, theorem_of}
 use Rattle.ot_article.proofs.Operands.{made_of, made-of}
-use Rattle.ot_plain.proofs.Results.{bind-ok}
+use Rattle.ot_logic.proofs.Results.{bind-ok}
 
 -- what is given is of the kind
 abbrev pub Gives : Kind → Read → Type 0

@@ -5,15 +5,15 @@ use Rattle.std.proofs.Common.{Ok, refl, sym, ap, subst, ◌∙◌, arith, append
 use Rattle.std.proofs.lemmas.List.{append-nil, drop_at}
 use Rattle.std.specs.Prelude.{find}
 use Rattle.std.specs.List.{flat_map}
-use Rattle.ot_plain.specs.Names.{Name}
-use Rattle.ot_plain.specs.Naming.{names}
-use Rattle.ot_plain.specs.Lists.{IsMember}
-use Rattle.ot_plain.specs.Trees.{Tm, Sequent, Definition}
-use Rattle.ot_plain.specs.Hol.{same_sequent, theorems}
-use Rattle.ot_plain.specs.Faults.{Fault}
-use Rattle.ot_plain.specs.declared.command.Cmd.{Cmd}
-use Rattle.ot_plain.specs.declared.command.Cmd.TheVariants as words
-use Rattle.ot_plain.specs.declared.kind.Kind.TheVariants as kinds
+use Rattle.ot_logic.specs.Names.{Name}
+use Rattle.ot_logic.specs.Naming.{names}
+use Rattle.ot_logic.specs.Lists.{IsMember}
+use Rattle.ot_logic.specs.Trees.{Tm, Sequent, Definition}
+use Rattle.ot_logic.specs.Hol.{same_sequent, theorems}
+use Rattle.ot_logic.specs.Faults.{Fault}
+use Rattle.ot_logic.specs.declared.command.Cmd.{Cmd}
+use Rattle.ot_logic.specs.declared.command.Cmd.TheVariants as words
+use Rattle.ot_logic.specs.declared.kind.Kind.TheVariants as kinds
 use Rattle.ot_trace.specs.Origins.{Origin, Origins, Make, Define, Outcome}
 use Rattle.ot_machine.specs.Objects.{Object, Objects, kind_of, list, term, theorem}
 use Rattle.ot_machine.specs.States.{version_6, Entry, Export, Given, Made, State, no_context}
@@ -39,7 +39,7 @@ use Rattle.ot_article.proofs.DefinitionRows as rows
 use Rattle.ot_article.proofs.Runs.{moved, thm-row}
 use Rattle.ot_article.proofs.Simulated.{taken_by, assumed_by, made_by, defined_by, IsWritten}
 use Rattle.ot_article.proofs.Simulated.{runs-on, marks-on, store-written, pop-written}
-use Rattle.ot_plain.proofs.Members.{IsMember-last, IsMember-left}
+use Rattle.ot_logic.proofs.Members.{IsMember-last, IsMember-left}
 
 -- ---- words that make an object
 

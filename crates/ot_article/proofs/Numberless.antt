@@ -1,16 +1,16 @@
 -- No number is a part of what makes an object without numbers.
 use Rattle.std.proofs.Common.{◌≡◌, Bool, true, false, List, [], ◌∷◌, Result, Ok, Err, inl, inr, sym, subst}
-use Rattle.std.specs.Prelude.{ℤ, if◌then◌else◌, nat_le}
-use Rattle.ot_plain.specs.Names.{Name}
-use Rattle.ot_plain.specs.Naming.{names}
-use Rattle.ot_plain.specs.Trees.{Ty, Variable, Tm, Definition}
-use Rattle.ot_plain.specs.Hol.{TypeMap, TermMap, depth_limit}
-use Rattle.ot_plain.specs.Rules.{has_type}
-use Rattle.ot_plain.specs.Faults.{Fault, BadSubst, BadDefinitionList, Nesting}
-use Rattle.ot_plain.specs.Answers.{◌>>=◌, unless}
-use Rattle.ot_plain.specs.Lists.{IsMember}
-use Rattle.ot_plain.specs.declared.command.Cmd.{Cmd}
-use Rattle.ot_plain.specs.declared.command.Cmd.TheVariants as words
+use Rattle.std.specs.Prelude.{ℤ, nat_le, if◌then◌else◌}
+use Rattle.ot_logic.specs.Names.{Name}
+use Rattle.ot_logic.specs.Naming.{names}
+use Rattle.ot_logic.specs.Trees.{Ty, Variable, Tm, Definition}
+use Rattle.ot_logic.specs.Hol.{TypeMap, TermMap, depth_limit}
+use Rattle.ot_logic.specs.Rules.{has_type}
+use Rattle.ot_logic.specs.Faults.{Fault, BadSubst, BadDefinitionList, Nesting}
+use Rattle.ot_logic.specs.Answers.{◌>>=◌, unless}
+use Rattle.ot_logic.specs.Lists.{IsMember}
+use Rattle.ot_logic.specs.declared.command.Cmd.{Cmd}
+use Rattle.ot_logic.specs.declared.command.Cmd.TheVariants as words
 use Rattle.ot_trace.specs.Origins.{Origin, Origins, Number, Named, Make, Define}
 use Rattle.ot_trace.specs.Origins.{Outcome, NoOrigins, MoreOrigins, parts, parts_all}
 use Rattle.ot_machine.specs.Objects.{Object, Objects, number, name, list, type_op, a_type, constant}
@@ -25,8 +25,8 @@ use Rattle.ot_machine.specs.Makers.{Read, Maker, of_none, of_top, of_two, no_mak
 use Rattle.ot_machine.specs.Values.{applied, value, values, definition_of, defines, theorem_of}
 use Rattle.ot_machine.proofs.ObjectKinds.{or_bad-is}
 use Rattle.ot_article.proofs.Operands.{made_of, made-of, const_given, list_given, type_given, given_by, given-of}
-use Rattle.ot_plain.proofs.Members.{IsMember-cases}
-use Rattle.ot_plain.proofs.Results.{bind-ok}
+use Rattle.ot_logic.proofs.Members.{IsMember-cases}
+use Rattle.ot_logic.proofs.Results.{bind-ok}
 
 -- no number, and no list with one
 abbrev mutual

@@ -3,9 +3,9 @@ use Rattle.std.proofs.Common.{◌≡◌, ℕ, zero, suc, ◌+◌, ◌<◌, ◌�
 use Rattle.std.proofs.Common.{List, [], ◌∷◌, ◌++◌, length, Option, None, Some, refl, arith, length-append}
 use Rattle.std.specs.Prelude.{pos}
 use Rattle.std.specs.Bool.{Decides}
-use Rattle.ot_plain.specs.Names.{Name}
-use Rattle.ot_plain.specs.Lists.{IsMember}
-use Rattle.ot_plain.specs.declared.command.Cmd.TheVariants as words
+use Rattle.ot_logic.specs.Names.{Name}
+use Rattle.ot_logic.specs.Lists.{IsMember}
+use Rattle.ot_logic.specs.declared.command.Cmd.TheVariants as words
 use Rattle.ot_trace.specs.Origins.{Origin, Origins, Number, Named, Make, Define}
 use Rattle.ot_trace.specs.Origins.{Outcome, NoOrigins, MoreOrigins, parts, parts_all}
 use Rattle.ot_written.specs.Written as w
@@ -15,8 +15,8 @@ use Rattle.ot_written.specs.Bytes.{line_text, line_bytes, bytes_of}
 use Rattle.ot_article.proofs.LineRun.{IsReadable, AreReadable, IsSayable}
 use Rattle.ot_written.proofs.Growth.{key-get}
 use Rattle.ot_article.proofs.LineTexts.{in-range}
-use Rattle.ot_plain.proofs.Elements.{slice_get-low}
-use Rattle.ot_plain.proofs.Members.{IsMember-left, IsMember-right}
+use Rattle.ot_logic.proofs.Elements.{slice_get-low}
+use Rattle.ot_logic.proofs.Members.{IsMember-left, IsMember-right}
 
 abbrev pub AreSayable : Origin Name → Type 0
 AreSayable o = (p : Origin Name) → IsMember p (parts o) → IsSayable p

@@ -1,14 +1,14 @@
 -- What roots of a lawful run lead to rests on the run.
 use Rattle.std.proofs.Common.{◌≡◌, ℕ, inl, inr, true, List, map, take, slice_get}
 use Rattle.std.proofs.Common.{Some, Result, Ok, refl, sym, ap, subst, ◌∙◌}
-use Rattle.ot_plain.specs.Names.{Name}
-use Rattle.ot_plain.specs.Naming.{names}
-use Rattle.ot_plain.specs.Hol.{same_sequent}
-use Rattle.ot_plain.specs.Trees.{Sequent, Definition}
-use Rattle.ot_plain.specs.Faults.{Fault}
-use Rattle.ot_plain.specs.Lists.{IsMember, IsPart}
-use Rattle.ot_plain.specs.declared.command.Cmd.{Cmd}
-use Rattle.ot_plain.specs.declared.command.Cmd.TheVariants as words
+use Rattle.ot_logic.specs.Names.{Name}
+use Rattle.ot_logic.specs.Naming.{names}
+use Rattle.ot_logic.specs.Hol.{same_sequent}
+use Rattle.ot_logic.specs.Trees.{Sequent, Definition}
+use Rattle.ot_logic.specs.Faults.{Fault}
+use Rattle.ot_logic.specs.Lists.{IsMember, IsPart}
+use Rattle.ot_logic.specs.declared.command.Cmd.{Cmd}
+use Rattle.ot_logic.specs.declared.command.Cmd.TheVariants as words
 use Rattle.ot_trace.specs.Origins.{Origin, Origins, Number, Named, Make, Define}
 use Rattle.ot_trace.specs.Origins.{Outcome, NoOrigins, MoreOrigins, parts, parts_all}
 use Rattle.ot_machine.specs.Objects.{Object, theorem}
@@ -20,8 +20,8 @@ use Rattle.ot_machine.specs.Lawful.{IsAxiom, IsLawfulDefinition, IsLawfulRun}
 use Rattle.ot_written.proofs.Settled.{IsDefine}
 use Rattle.ot_article.specs.Article.{origins_made}
 use Rattle.ot_written.proofs.Parts.{part-self, part-operand}
-use Rattle.ot_plain.proofs.Members.{All-at_member, IsMember-cases, IsMember-map}
-use Rattle.ot_plain.proofs.Members.{IsMember-map_back, IsMember-place, IsPart-take}
+use Rattle.ot_logic.proofs.Members.{All-at_member, IsMember-cases, IsMember-map}
+use Rattle.ot_logic.proofs.Members.{IsMember-map_back, IsMember-place, IsPart-take}
 
 module _ (b : Basis) where
   mutual

@@ -1,11 +1,11 @@
 -- What the rows do on a stack that ends with their operands.
 use Rattle.std.proofs.Common.{◌≡◌, List, [], ◌∷◌, ◌++◌, None, Ok, refl, sym, ap, subst, ◌∙◌, arith}
 use Rattle.std.proofs.lemmas.List.{append-nil}
-use Rattle.ot_plain.specs.Names.{Name}
-use Rattle.ot_plain.specs.Trees.{Tm, Sequent}
-use Rattle.ot_plain.specs.Answers.{◌>>=◌}
-use Rattle.ot_plain.specs.declared.command.Cmd.{Cmd}
-use Rattle.ot_plain.specs.declared.command.Cmd.TheVariants as words
+use Rattle.ot_logic.specs.Names.{Name}
+use Rattle.ot_logic.specs.Trees.{Tm, Sequent}
+use Rattle.ot_logic.specs.Answers.{◌>>=◌}
+use Rattle.ot_logic.specs.declared.command.Cmd.{Cmd}
+use Rattle.ot_logic.specs.declared.command.Cmd.TheVariants as words
 use Rattle.ot_trace.specs.Origins.{Named, Make, NoOrigins, MoreOrigins}
 use Rattle.ot_machine.specs.Objects.{Object, Objects, list, type_op, constant, theorem, no_objects}
 use Rattle.ot_machine.specs.States.{version_6, Entry, State, no_context}
@@ -20,7 +20,7 @@ use Rattle.ot_machine.specs.Lawful.{IsAxiom}
 use Rattle.ot_machine.proofs.ObjectKinds.{name-is}
 use Rattle.ot_article.proofs.Frames.{objects_of, entry, entry-here, object-here, dropped-here, top-here, making-here}
 use Rattle.ot_article.proofs.MadeKinds.{value-name}
-use Rattle.ot_plain.proofs.Results.{bind-ok}
+use Rattle.ot_logic.proofs.Results.{bind-ok}
 
 abbrev pub with_stack : State → List Entry → State
 with_stack s st = record s { article = record s.article { stack = st } }

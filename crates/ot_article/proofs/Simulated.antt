@@ -10,10 +10,10 @@ use Rattle.std.specs.FinMap.{FinMap}
 use Rattle.std.specs.Ordering.{int_cmp, eq_by_cmp}
 use Rattle.std.specs.Prelude.{ℤ, pos}
 use Rattle.std.specs.List.{flat_map}
-use Rattle.ot_plain.specs.Names.{Name}
-use Rattle.ot_plain.specs.Trees.{Definition}
-use Rattle.ot_plain.specs.Faults.{Fault}
-use Rattle.ot_plain.specs.declared.command.Cmd.TheVariants as words
+use Rattle.ot_logic.specs.Names.{Name}
+use Rattle.ot_logic.specs.Trees.{Definition}
+use Rattle.ot_logic.specs.Faults.{Fault}
+use Rattle.ot_logic.specs.declared.command.Cmd.TheVariants as words
 use Rattle.ot_trace.specs.Origins.{Origin, Number, Named, Make, Define}
 use Rattle.ot_machine.specs.Objects.{Object, number, name, theorem}
 use Rattle.ot_machine.specs.States.{version_6, Entry, Export, Given, Made, State, no_context}

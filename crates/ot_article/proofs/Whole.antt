@@ -4,11 +4,11 @@ use Rattle.std.proofs.Common.{Ok, refl, sym, ap, subst, ◌∙◌, append_assoc}
 use Rattle.std.specs.Bool.{Decides}
 use Rattle.std.specs.List.{flat_map}
 use Rattle.std.proofs.lemmas.List.{append-nil}
-use Rattle.ot_plain.specs.Names.{Name}
-use Rattle.ot_plain.specs.Faults.{Fault}
-use Rattle.ot_plain.specs.Trees.{Sequent}
-use Rattle.ot_plain.specs.Lists.{IsMember, AreDistinct}
-use Rattle.ot_plain.specs.declared.command.Cmd.TheVariants as words
+use Rattle.ot_logic.specs.Names.{Name}
+use Rattle.ot_logic.specs.Faults.{Fault}
+use Rattle.ot_logic.specs.Trees.{Sequent}
+use Rattle.ot_logic.specs.Lists.{IsMember, AreDistinct}
+use Rattle.ot_logic.specs.declared.command.Cmd.TheVariants as words
 use Rattle.ot_trace.specs.Origins.{Origin, Origins, Number, Named, Make, Define, Outcome, parts}
 use Rattle.ot_machine.specs.Objects.{Object, theorem}
 use Rattle.ot_machine.specs.States.{version_6, Export, Given, Made}
@@ -31,7 +31,7 @@ use Rattle.ot_article.proofs.Article.{HasTheorems, theorems-definition, defined-
 use Rattle.ot_article.proofs.Article.{definitions-run, exports-run, AreRun}
 use Rattle.ot_written.proofs.Lean.{written-once}
 use Rattle.ot_written.proofs.Covers.{IsCovered, AreMade, grown-made, emit-done, definition-done}
-use Rattle.ot_plain.proofs.Members.{IsMember-cases}
+use Rattle.ot_logic.proofs.Members.{IsMember-cases}
 
 axiom-mark : (o : Origin Name) → IsAxiom o → IsMark o
 axiom-mark (Number k) h = absurd (let e : Number k ≡ Make words.Axiom h.0 = h.1 in cc)

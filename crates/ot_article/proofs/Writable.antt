@@ -1,11 +1,11 @@
 -- What is asked of definitions and exports, so that their article runs; and what it then is.
 use Rattle.std.specs.Prelude.{◌≡◌, Bool, true, false, List, [], ◌∷◌, ◌++◌, map, Ok}
-use Rattle.ot_plain.specs.Names.{Name}
-use Rattle.ot_plain.specs.Naming.{names}
-use Rattle.ot_plain.specs.Trees.{Tm, Sequent}
-use Rattle.ot_plain.specs.Hol.{same_sequent}
-use Rattle.ot_plain.specs.Lists.{IsMember, AreDistinct}
-use Rattle.ot_plain.specs.declared.command.Cmd.{Cmd}
+use Rattle.ot_logic.specs.Names.{Name}
+use Rattle.ot_logic.specs.Naming.{names}
+use Rattle.ot_logic.specs.Trees.{Tm, Sequent}
+use Rattle.ot_logic.specs.Hol.{same_sequent}
+use Rattle.ot_logic.specs.Lists.{IsMember, AreDistinct}
+use Rattle.ot_logic.specs.declared.command.Cmd.{Cmd}
 use Rattle.ot_trace.specs.Origins.{Origin, Origins, Define, Roots, parts}
 use Rattle.ot_written.specs.Written.{Text, roots_of}
 use Rattle.ot_written.proofs.Settled.{EachOutcome, EachOutcomes, IsTheoremOf}

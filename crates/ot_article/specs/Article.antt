@@ -1,8 +1,8 @@
 -- What the written article of exports does when it is run alone.
 use Rattle.std.specs.Prelude.{◌≡◌, ◌↔◌, ◌≤◌, ◌<◌, ◌^◌, ℕ, Bool, List, map, length, Ok}
 use Rattle.std.specs.List.{All, filter}
-use Rattle.ot_plain.specs.Lists.{IsMember, AreDistinct}
-use Rattle.ot_plain.specs.Names.{Name}
+use Rattle.ot_logic.specs.Lists.{IsMember, AreDistinct}
+use Rattle.ot_logic.specs.Names.{Name}
 use Rattle.ot_scan.specs.Lines.{lines_of}
 use Rattle.ot_trace.specs.Origins.{Origin}
 use Rattle.ot_trace.specs.Reach.{IsReached}

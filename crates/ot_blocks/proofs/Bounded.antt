@@ -4,7 +4,7 @@ use Rattle.std.proofs.Common.{length, true, false, inl, inr, sym, refl, arith, e
 use Rattle.std.specs.List.{IsDistinct, AllByRecursion, list_any}
 use Rattle.std.proofs.lemmas.Bool.{cases_Bool, or_parts, or_cases, eqb-true, eqb-false, ne_eqb}
 use Rattle.std.proofs.lemmas.Map.Steps.{length-le_from_distinct_below}
-use Rattle.ot_plain.specs.Lists.{IsMember}
+use Rattle.ot_logic.specs.Lists.{IsMember}
 use Rattle.ot_blocks.specs.Order.{Order, Ordered, LeadsBack, TooDeep, ◌>>=◌}
 use Rattle.ot_blocks.specs.Order.{walk_imports, walk_block, imports_at, is_in}
 use Rattle.ot_blocks.specs.Ordering.{IsInside, EndsAlways}

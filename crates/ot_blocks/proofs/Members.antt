@@ -4,7 +4,7 @@ use Rattle.std.specs.Bool.{Decides}
 use Rattle.std.proofs.Common.{◌≡◌, Bool, List, [], ◌∷◌, ◌++◌, ◌⊎◌, true, false}
 use Rattle.std.proofs.Common.{inl, inr, ap, ◌∙◌, refl}
 use Rattle.std.proofs.lemmas.Bool.{or_cases, or_left, or_right, both_ways}
-use Rattle.ot_plain.specs.Lists.{IsMember}
+use Rattle.ot_logic.specs.Lists.{IsMember}
 
 module _ {K : Type 0} (same : K → K → Bool) (tells : (x y : K) → Decides (same x y) (x ≡ y)) where
   pub member_from_test : (ks : List K) (k : K) → list_any (λ x. same x k) ks ≡ true → IsMember k ks

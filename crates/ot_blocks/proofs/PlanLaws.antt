@@ -3,8 +3,8 @@ use Rattle.std.proofs.Common.{true, ◌≡◌, ◌≢◌, ◌<◌, ℕ, zero, su
 use Rattle.std.proofs.Common.{inr, List, [], ◌∷◌, refl, sym, ap, subst, ◌∙◌, Some, None, Ok, Err}
 use Rattle.std.specs.Prelude.{Option, Result, codes, IfOk}
 use Rattle.std.proofs.lemmas.List.{length-map}
-use Rattle.ot_plain.specs.Answers.{◌>>=◌}
-use Rattle.ot_plain.specs.Lists.{IsMember}
+use Rattle.ot_logic.specs.Answers.{◌>>=◌}
+use Rattle.ot_logic.specs.Lists.{IsMember}
 use Rattle.ot_theory.specs.Theory.{BlockText, has_block}
 use Rattle.ot_blocks.specs.Order.{Order, Ordered, LeadsBack, TooDeep, order_of, imports_at}
 use Rattle.ot_blocks.specs.Structure.{Places, PlanText, place_of, imports_of, graph_of, faults_of}

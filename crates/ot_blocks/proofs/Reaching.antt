@@ -2,13 +2,13 @@
 use Rattle.std.proofs.Common.{◌≡◌, ℕ, zero, suc, List, [], ◌∷◌, ◌++◌, length, false, inl, inr, refl, sym, subst, eqb}
 use Rattle.std.proofs.lemmas.Bool.{cases_Bool}
 use Rattle.std.proofs.lemmas.Bool.Decides.{Decides-eqb}
-use Rattle.ot_plain.specs.Lists.{IsMember, IsPart, AreDistinct}
+use Rattle.ot_logic.specs.Lists.{IsMember, IsPart, AreDistinct}
 use Rattle.ot_blocks.specs.Order.{Order, Ordered, LeadsBack, TooDeep, ◌>>=◌}
 use Rattle.ot_blocks.specs.Order.{walk_imports, walk_block, order_of, imports_at, is_in}
 use Rattle.ot_blocks.specs.Ordering.{Reaches, Here, Along, HasCycleAt, GivesOrder, GivesCycle}
 use Rattle.ot_blocks.specs.declared.walk.Import.{Import}
 use Rattle.ot_blocks.proofs.Members.{member_from_test, apart_from_test, member_end, cut_push}
-use Rattle.ot_plain.proofs.Members.{AreDistinct-push, IsMember-left, IsMember-push}
+use Rattle.ot_logic.proofs.Members.{AreDistinct-push, IsMember-left, IsMember-push}
 
 -- ---- answers
 

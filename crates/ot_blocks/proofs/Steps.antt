@@ -15,7 +15,7 @@ use Rattle.ot_blocks.specs.declared.walk.Import.{Import}
 use Rattle.ot_blocks.specs.declared.walk.Frame.{Frame}
 use Rattle.ot_blocks.specs.declared.walk.Mark.{Mark}
 use Rattle.ot_blocks.specs.declared.walk.Mark.TheVariants.{New, Open, Done}
-use Rattle.ot_plain.proofs.Members.{IsMember-at}
+use Rattle.ot_logic.proofs.Members.{IsMember-at}
 
 -- what a mark says
 pub is_done : (x y : Bool) → (if x then Done else (if y then Open else New)) ≡ Done → x ≡ true

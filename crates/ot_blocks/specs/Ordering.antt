@@ -1,6 +1,6 @@
 -- Laws of the order, in other words.
 use Rattle.std.specs.Prelude.{◌≡◌, ◌≢◌, ◌<◌, ℕ, List, [], ◌∷◌, ◌++◌, length}
-use Rattle.ot_plain.specs.Lists.{IsMember, AreDistinct}
+use Rattle.ot_logic.specs.Lists.{IsMember, AreDistinct}
 use Rattle.ot_blocks.specs.Order.{Ordered, LeadsBack, TooDeep, order_of, imports_at}
 use Rattle.ot_blocks.specs.declared.walk.Import.{Import}
 

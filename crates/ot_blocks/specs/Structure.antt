@@ -4,8 +4,8 @@ use Rattle.std.specs.Prelude.{◌≡◌, ◌≢◌, ◌<◌, ℕ, List, [], ◌�
 use Rattle.std.specs.Prelude.{codes, find, filter_map, flat_map, position, is_some, slice_index_or, if◌then◌else◌}
 use Rattle.std.specs.Option.{option_map}
 use Rattle.std.specs.Str.{bytes_eq}
-use Rattle.ot_plain.specs.Answers.{◌>>=◌}
-use Rattle.ot_plain.specs.Lists.{IsMember}
+use Rattle.ot_logic.specs.Answers.{◌>>=◌}
+use Rattle.ot_logic.specs.Lists.{IsMember}
 use Rattle.ot_theory.specs.Theory.{TagText, BlockText, has_block}
 use Rattle.ot_theory.specs.Values.{key_of, is_source}
 use Rattle.ot_theory.specs.declared.keys.Key.{Key}

@@ -7,7 +7,7 @@ ghost use Rattle.ot_theory.specs.Values.{IsPath};
 ghost use Rattle.ot_blocks.specs.Paths.{name_part, version_part, is_name_byte, is_name, is_digits};
 ghost use Rattle.ot_blocks.specs.Paths.{is_version, is_package, package_path, article_path, folder_of};
 
-use ot_plain::Memory;
+use ot_logic::Memory;
 use std::alloc::Global;
 
 /// Whether a text is a package's full name, by the theory file format: a name of lower-case letters,

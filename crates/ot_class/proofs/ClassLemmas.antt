@@ -9,18 +9,18 @@ use Rattle.std.specs.Cmp.Derive.{both_true}
 use Rattle.std.specs.Ordering.{ord_max}
 use Rattle.std.proofs.lemmas.Bool.{and_cases}
 use Rattle.ot_type.proofs.SubtypeLemmas.{less_is}
-use Rattle.ot_plain.specs.Trees.{Ty, Variable, Tm, Free, Bound, App, Abs}
-use Rattle.ot_plain.specs.Hol.{IsFree, IsClosed}
-use Rattle.ot_plain.specs.Naming.{numbers as alphabet}
-use Rattle.ot_plain.specs.Table.{Extends, IsInjective}
-use Rattle.ot_plain.specs.Interned.{NodeLaws}
-use Rattle.ot_plain.proofs.TableLemmas.{get_or-Extends, get_or-IsInjective}
+use Rattle.ot_logic.specs.Trees.{Ty, Variable, Tm, Free, Bound, App, Abs}
+use Rattle.ot_logic.specs.Hol.{IsFree, IsClosed}
+use Rattle.ot_logic.specs.Naming.{numbers as alphabet}
+use Rattle.ot_logic.specs.Table.{Extends, IsInjective}
+use Rattle.ot_logic.specs.Interned.{NodeLaws}
+use Rattle.ot_logic.proofs.TableLemmas.{get_or-Extends, get_or-IsInjective}
 use Rattle.ot_class.specs.Class.{numbered, variable_by, variable_of, class_at}
 use Rattle.ot_class.specs.Table.{tree_of, AreBelow, Describes, IsBeside, AreClassNodes}
 use Rattle.ot_class.specs.declared.node.ClassNode.{ClassNode}
 use Rattle.ot_class.specs.declared.node.Key.{Key}
 use Rattle.ot_class.specs.declared.node.ClassNode.TheVariants as node
-use Rattle.ot_class.specs.declared.table.Beside.{Beside}
+use Rattle.ot_class.specs.declared.table.NodeInfo.{NodeInfo}
 use Rattle.ot_class.specs.NodeHash.{same_node}
 use Rattle.ot_class.specs.contracts.node.ClassNodePartialEq.TheImpl as derived
 
@@ -119,13 +119,13 @@ laws = record {
 }
 
 -- what stands beside a number is of the tree at it
-pub described_at : (es : List (ClassNode × Beside)) (cs : List (Tm ℕ)) → AreClassNodes es cs
-    → (i : ℕ) (n : ClassNode) (b : Beside) → slice_get es i ≡ Some (n, b) → Describes (class_at cs i) b
+pub described_at : (es : List (ClassNode × NodeInfo)) (cs : List (Tm ℕ)) → AreClassNodes es cs
+    → (i : ℕ) (n : ClassNode) (b : NodeInfo) → slice_get es i ≡ Some (n, b) → Describes (class_at cs i) b
 described_at es cs nodes i n b p =
     let e = nodes.entries i n b p in
     subst (λ t. Describes t b) (sym (get_or_from_slice_get cs i _ (Bound 0) e.tree)) e.fits
 
-pub described-variable : (v : Key) (b : Beside) → b.newest ≡ v.name → b.closed ≡ false
+pub described-variable : (v : Key) (b : NodeInfo) → b.newest ≡ v.name → b.closed ≡ false
     → Describes (Free (variable_of v)) b
 described-variable v b newest closed = record {
   most = λ w e. let same : v.name ≡ w.name = ap (λ (x : Variable ℕ). x.name) e in omega (arith, same, newest);
@@ -134,7 +134,7 @@ described-variable v b newest closed = record {
 }
 
 -- what stands beside an application and an abstraction, by their parts
-pub described-application : (f x : Tm ℕ) (b c d : Beside) → d.newest ≡ ord_max nat_cmp b.newest c.newest
+pub described-application : (f x : Tm ℕ) (b c d : NodeInfo) → d.newest ≡ ord_max nat_cmp b.newest c.newest
     → d.closed ≡ (b.closed && c.closed) → Describes f b → Describes x c → Describes (App f x) d
 described-application f x b c d e s g h = record { most = most; closed = closed; unclosed = unclosed }
   where
@@ -155,7 +155,7 @@ described-application f x b c d e s g h = record { most = most; closed = closed;
       | inr q ↦ let (w, i) = h.unclosed q in (w, inr i)
     ]
 
-pub described-abstraction : (t : Ty ℕ) (f : Tm ℕ) (b d : Beside) → d.newest ≡ b.newest → d.closed ≡ b.closed
+pub described-abstraction : (t : Ty ℕ) (f : Tm ℕ) (b d : NodeInfo) → d.newest ≡ b.newest → d.closed ≡ b.closed
     → Describes f b → Describes (Abs t f) d
 described-abstraction t f b d e s g = record {
   most = λ w i. let le = g.most w i in omega (arith, le, e);
@@ -164,7 +164,7 @@ described-abstraction t f b d e s g = record {
 }
 
 -- the test of a tree that is described
-pub closed_tells : (t : Tm ℕ) (b : Beside) (closed : Bool) → b.closed ≡ closed → Describes t b
+pub closed_tells : (t : Tm ℕ) (b : NodeInfo) (closed : Bool) → b.closed ≡ closed → Describes t b
     → Decides closed (IsClosed alphabet t)
 closed_tells t b true p h = (λ e w i. true≢false (sym p ∙ h.closed w i), λ none. refl)
 closed_tells t b false p h =

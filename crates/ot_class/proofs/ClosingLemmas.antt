@@ -4,22 +4,22 @@ use Rattle.std.proofs.Common.{◌≡◌, ℕ, suc, ◌<◌, Bool, true, false, �
 use Rattle.std.proofs.Common.{List, length, slice_get, Some, refl, sym, ap, subst, ◌∙◌, arith}
 use Rattle.std.proofs.lemmas.Option.{same_Some, slice_get-get_or, slice_get_within, get_or_from_slice_get}
 use Rattle.std.proofs.lemmas.Bool.{and_parts}
-use Rattle.ot_plain.specs.Trees.{Ty, Variable, Tm, Free, Bound, App, Abs}
-use Rattle.ot_plain.specs.Hol.{close_at, IsFree}
-use Rattle.ot_plain.specs.Naming.{numbers}
-use Rattle.ot_plain.specs.Table.{Extends}
-use Rattle.ot_plain.proofs.TableLemmas.{get_or-Extends}
+use Rattle.ot_logic.specs.Trees.{Ty, Variable, Tm, Free, Bound, App, Abs}
+use Rattle.ot_logic.specs.Hol.{close_at, IsFree}
+use Rattle.ot_logic.specs.Naming.{numbers}
+use Rattle.ot_logic.specs.Table.{Extends}
+use Rattle.ot_logic.proofs.TableLemmas.{get_or-Extends}
 use Rattle.ot_laws.proofs.Tests.{tells_numbers}
 use Rattle.ot_laws.proofs.Terms.{close_at_fresh}
 use Rattle.ot_class.specs.Class.{variable_of, class_at}
 use Rattle.ot_class.specs.Table.{Describes}
 use Rattle.ot_class.specs.Closing.{same_place, IsClosing}
 use Rattle.ot_class.specs.declared.node.Key.{Key}
-use Rattle.ot_class.specs.declared.table.Beside.{Beside}
+use Rattle.ot_class.specs.declared.table.NodeInfo.{NodeInfo}
 use Rattle.ot_class.specs.declared.table.closing.Place.{Place}
 
 -- a variable that is newer than each free one closes nothing
-pub newer : (cs : List (Tm ℕ)) (id depth : ℕ) (v : Key) (b : Beside) → id < length cs → Describes (class_at cs id) b
+pub newer : (cs : List (Tm ℕ)) (id depth : ℕ) (v : Key) (b : NodeInfo) → id < length cs → Describes (class_at cs id) b
     → b.newest < v.name → slice_get cs id ≡ Some (close_at numbers depth (variable_of v) (class_at cs id))
 newer cs id depth v b h most lt =
     slice_get-get_or cs id (Bound 0) h

@@ -7,9 +7,9 @@ use Rattle.std.proofs.Common.{if◌then◌else◌, refl, sym, ap, subst, ◌∙�
 use Rattle.std.proofs.lemmas.Bool.{or_cases, true≢false}
 use Rattle.std.proofs.lemmas.List.{append-nil}
 use Rattle.indexmap.specs.IndexSet.{insert_key}
-use Rattle.ot_plain.specs.Lists.{IsMember, IsSameSet, AreDistinct}
+use Rattle.ot_logic.specs.Lists.{IsMember, IsSameSet, AreDistinct}
 use Rattle.ot_laws.proofs.Sets.{same_set-then, same_set-append, same_set-self, distinct-append}
-use Rattle.ot_plain.proofs.Members.{IsMember-cases, IsMember-left}
+use Rattle.ot_logic.proofs.Members.{IsMember-cases, IsMember-left}
 
 module _ {X : Type 0} (eq : X → X → Bool) (is : (x y : X) → Decides (eq x y) (x ≡ y)) where
   pub any_to : (k : X) (ks : List X) → list_any (eq k) ks ≡ true → IsMember k ks

@@ -6,18 +6,18 @@ use Rattle.std.proofs.Common.{eqb-true, List, [], ◌∷◌, slice_get, Some, sy
 use Rattle.std.proofs.lemmas.Option.{get_or_from_slice_get}
 use Rattle.std.proofs.lemmas.Bool.Decides.{Decides-and, Decides-like, Decides-eqb}
 use Rattle.indexmap.specs.IndexSet.{insert_key}
-use Rattle.ot_plain.specs.Lists.{IsMember}
-use Rattle.ot_plain.specs.Trees.{Ty, Variable, Tm, Free, Bound, App, Abs}
-use Rattle.ot_plain.specs.Hol.{IsFree}
-use Rattle.ot_plain.specs.Naming.{numbers as alphabet}
+use Rattle.ot_logic.specs.Lists.{IsMember}
+use Rattle.ot_logic.specs.Trees.{Ty, Variable, Tm, Free, Bound, App, Abs}
+use Rattle.ot_logic.specs.Hol.{IsFree}
+use Rattle.ot_logic.specs.Naming.{numbers as alphabet}
 use Rattle.ot_class.specs.Class.{numbered, variable_by, variable_of, class_at}
 use Rattle.ot_class.specs.Table.{Describes}
 use Rattle.ot_class.specs.Gathering.{AddsFree, AreSeen}
 use Rattle.ot_class.specs.declared.node.Key.{Key}
-use Rattle.ot_class.specs.declared.table.Beside.{Beside}
+use Rattle.ot_class.specs.declared.table.NodeInfo.{NodeInfo}
 use Rattle.ot_class.specs.contracts.node.KeyPartialEq.TheImpl as keys
 use Rattle.ot_class.proofs.Distinct.{insert_members, insert_once}
-use Rattle.ot_plain.proofs.Members.{IsMember-cases, IsMember-left, IsMember-right}
+use Rattle.ot_logic.proofs.Members.{IsMember-cases, IsMember-left, IsMember-right}
 
 module _ {X : Type 0} (var : X → Variable ℕ) where
   -- nothing to add
@@ -29,7 +29,7 @@ module _ {X : Type 0} (var : X → Variable ℕ) where
   }
 
   -- the tree is closed
-  pub adds-closed : (t : Tm ℕ) (b : Beside) (xs : List X) → Describes t b → b.closed ≡ true → AddsFree var t xs xs
+  pub adds-closed : (t : Tm ℕ) (b : NodeInfo) (xs : List X) → Describes t b → b.closed ≡ true → AddsFree var t xs xs
   adds-closed t b xs h closed = adds-none t xs (λ x f. true≢false (sym closed ∙ h.closed (var x) f))
 
   -- the tree was looked at
@@ -125,7 +125,7 @@ one_type name j k e =
     cc
 
 -- the name is newer than each free one
-pub adds-newer : (t : Tm ℕ) (name : ℕ) (b : Beside) (xs : List ℕ) → Describes t b → b.newest < name
+pub adds-newer : (t : Tm ℕ) (name : ℕ) (b : NodeInfo) (xs : List ℕ) → Describes t b → b.newest < name
     → AddsFree (variable_by name) t xs xs
 adds-newer t name b xs h lt =
     adds-none (variable_by name) t xs (λ k f. let le = h.most (variable_by name k) f in omega (arith, le, lt))

@@ -2,11 +2,11 @@
 use Rattle.std.specs.Bool.{Decides}
 use Rattle.std.proofs.Common.{◌≡◌, ℕ, suc, ◌<◌, ◌≤◌, Bool, true, false, cond, List, length, refl, sym, ap, ◌∙◌, arith}
 use Rattle.std.proofs.lemmas.Bool.Decides.{same_from_decides}
-use Rattle.ot_plain.specs.Trees.{Ty, TyVar, Variable, Tm, Free, Con, Bound, App, Abs}
-use Rattle.ot_plain.specs.Hol.{same_var, close_at}
-use Rattle.ot_plain.specs.Naming.{numbers}
-use Rattle.ot_plain.specs.Table.{Extends, IsInjective}
-use Rattle.ot_plain.proofs.TableLemmas.{get_or-Extends, get_or-IsInjective}
+use Rattle.ot_logic.specs.Trees.{Ty, TyVar, Variable, Tm, Free, Con, Bound, App, Abs}
+use Rattle.ot_logic.specs.Hol.{same_var, close_at}
+use Rattle.ot_logic.specs.Naming.{numbers}
+use Rattle.ot_logic.specs.Table.{Extends, IsInjective}
+use Rattle.ot_logic.proofs.TableLemmas.{get_or-Extends, get_or-IsInjective}
 use Rattle.ot_type.specs.TypeTable.{type_at}
 use Rattle.ot_laws.proofs.Tests.{tells_numbers, same_var-is}
 use Rattle.ot_class.specs.Class.{numbered}

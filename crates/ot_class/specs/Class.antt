@@ -1,6 +1,6 @@
 -- Nameless terms over numbers of types: the type with the number k stands as the type variable k.
 use Rattle.std.specs.Prelude.{ℕ, List, slice_index_or}
-use Rattle.ot_plain.specs.Trees.{Ty, TyVar, Variable, Tm, Bound}
+use Rattle.ot_logic.specs.Trees.{Ty, TyVar, Variable, Tm, Bound}
 use Rattle.ot_class.specs.declared.node.Key.{Key}
 
 -- the type with a number

@@ -1,9 +1,9 @@
 -- What is remembered while a variable is closed in a nameless term.
 use Rattle.std.specs.Prelude.{◌≡◌, ◌&&◌, ℕ, ◌<◌, Bool, nat_eq, List, length, slice_get, Some}
 use Rattle.std.specs.Map.{lookup}
-use Rattle.ot_plain.specs.Trees.{Tm}
-use Rattle.ot_plain.specs.Hol.{close_at}
-use Rattle.ot_plain.specs.Naming.{numbers}
+use Rattle.ot_logic.specs.Trees.{Tm}
+use Rattle.ot_logic.specs.Hol.{close_at}
+use Rattle.ot_logic.specs.Naming.{numbers}
 use Rattle.ot_class.specs.Class.{variable_of, class_at}
 use Rattle.ot_class.specs.declared.node.Key.{Key}
 use Rattle.ot_class.specs.declared.table.closing.Place.{Place}

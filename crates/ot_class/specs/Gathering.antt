@@ -1,10 +1,10 @@
 -- Free variables that are gathered from a nameless term, each by an item that stands for it.
 --     var x    the variable that the item x stands for
 use Rattle.std.specs.Prelude.{ℕ, List, ◌⊎◌}
-use Rattle.ot_plain.specs.Lists.{IsMember, AreDistinct}
-use Rattle.ot_plain.specs.Trees.{Variable, Tm}
-use Rattle.ot_plain.specs.Hol.{IsFree}
-use Rattle.ot_plain.specs.Naming.{numbers as alphabet}
+use Rattle.ot_logic.specs.Lists.{IsMember, AreDistinct}
+use Rattle.ot_logic.specs.Trees.{Variable, Tm}
+use Rattle.ot_logic.specs.Hol.{IsFree}
+use Rattle.ot_logic.specs.Naming.{numbers as alphabet}
 use Rattle.ot_class.specs.Class.{class_at}
 
 module _ {X : Type 0} (var : X → Variable ℕ) where

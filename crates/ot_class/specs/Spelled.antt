@@ -1,8 +1,8 @@
 -- What a nameless term over numbers of types stands for, by a table of types.
 use Rattle.std.specs.Prelude.{◌≡◌, ℕ, ◌<◌, List}
-use Rattle.ot_plain.specs.Trees.{Ty, Variable, Tm, Free, Con, Bound, App, Abs}
-use Rattle.ot_plain.specs.Hol.{inst_by}
-use Rattle.ot_plain.specs.Naming.{numbers}
+use Rattle.ot_logic.specs.Trees.{Ty, Variable, Tm, Free, Con, Bound, App, Abs}
+use Rattle.ot_logic.specs.Hol.{inst_by}
+use Rattle.ot_logic.specs.Naming.{numbers}
 use Rattle.ot_type.specs.TypeTable.{type_at}
 use Rattle.ot_class.specs.Class.{numbered}
 

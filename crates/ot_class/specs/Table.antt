@@ -1,13 +1,13 @@
 -- The table of nameless terms.
 use Rattle.std.specs.Prelude.{◌≡◌, ℕ, ◌<◌, ◌≤◌, false, List}
-use Rattle.ot_plain.specs.Trees.{Variable, Tm, Free, Con, Bound, App, Abs}
-use Rattle.ot_plain.specs.Hol.{IsFree}
-use Rattle.ot_plain.specs.Naming.{numbers as alphabet}
-use Rattle.ot_plain.specs.Interned.{trees_of, IsSound}
+use Rattle.ot_logic.specs.Trees.{Variable, Tm, Free, Con, Bound, App, Abs}
+use Rattle.ot_logic.specs.Hol.{IsFree}
+use Rattle.ot_logic.specs.Naming.{numbers as alphabet}
+use Rattle.ot_logic.specs.Interned.{trees_of, IsSound}
 use Rattle.ot_class.specs.Class.{numbered, variable_by, class_at}
 use Rattle.ot_class.specs.declared.node.ClassNode.{ClassNode}
 use Rattle.ot_class.specs.declared.node.ClassNode.TheVariants as node
-use Rattle.ot_class.specs.declared.table.Beside.{Beside}
+use Rattle.ot_class.specs.declared.table.NodeInfo.{NodeInfo}
 
 -- the tree of a node
 abbrev pub tree_of : List (Tm ℕ) → ClassNode → Tm ℕ
@@ -26,18 +26,18 @@ AreBelow k (node.App f x) = (f < k) × (x < k)
 AreBelow k (node.Abs t b) = b < k
 
 -- no free variable of the tree has a newer name; a closed tree has none, and any other has one
-pub record Describes (t : Tm ℕ) (b : Beside) : Type 0 where
+pub record Describes (t : Tm ℕ) (b : NodeInfo) : Type 0 where
   pub most : (w : Variable ℕ) → IsFree alphabet w t → w.name ≤ b.newest
   pub closed : (w : Variable ℕ) → IsFree alphabet w t → b.closed ≡ false
   pub unclosed : b.closed ≡ false → (w : Variable ℕ) × IsFree alphabet w t
 
-abbrev pub IsBeside : List (Tm ℕ) → ClassNode → Beside → Type 0
+abbrev pub IsBeside : List (Tm ℕ) → ClassNode → NodeInfo → Type 0
 IsBeside cs n b = Describes (tree_of cs n) b
 
 -- the trees of the entries
-abbrev pub class_trees : List (ClassNode × Beside) → List (Tm ℕ)
+abbrev pub class_trees : List (ClassNode × NodeInfo) → List (Tm ℕ)
 class_trees es = trees_of tree_of es
 
 -- what the nodes keep
-abbrev pub AreClassNodes : List (ClassNode × Beside) → List (Tm ℕ) → Type 0
+abbrev pub AreClassNodes : List (ClassNode × NodeInfo) → List (Tm ℕ) → Type 0
 AreClassNodes es cs = IsSound tree_of AreBelow IsBeside es cs

@@ -1,6 +1,6 @@
 ghost use Rattle.ot_class.specs.NodeHash.{node_writes, node_writes-alike};
 
-use ot_plain::NameId;
+use ot_logic::NameId;
 use ot_type::TypeId;
 use std::hash::{Hash, Hasher};
 use std::marker::Model;

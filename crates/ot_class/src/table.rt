@@ -1,16 +1,16 @@
 //! The table: its nodes, what stands beside them, and how they are made.
 ghost use Rattle.std.specs.Prelude.{◌≡◌, ◌<◌, ℕ, [], Some, slice_get, length, IfOk, Decides};
-ghost use Rattle.ot_plain.specs.Table.{Extends, IsInjective};
-ghost use Rattle.ot_plain.specs.Hol.{close, IsClosed};
-ghost use Rattle.ot_plain.specs.Naming.{numbers};
-ghost use Rattle.ot_plain.specs.Trees.{Free, Con, App, Abs};
+ghost use Rattle.ot_logic.specs.Table.{Extends, IsInjective};
+ghost use Rattle.ot_logic.specs.Hol.{close, IsClosed};
+ghost use Rattle.ot_logic.specs.Naming.{numbers};
+ghost use Rattle.ot_logic.specs.Trees.{Free, Con, App, Abs};
 
 mod closing;
 mod free;
 
 use crate::node::{ClassId, ClassNode, Key};
 use indexmap::IndexMap;
-use ot_plain::{Memory, NameId};
+use ot_logic::{Memory, NameId};
 use ot_type::TypeId;
 use std::alloc::Global;
 use std::marker::Model;
@@ -19,7 +19,7 @@ use std::marker::Model;
 /// exactly where none is free. `size` is how many nodes the tree has, as far as a `u16` goes; how long a call takes
 /// depends on it, and no answer does.
 #[derive(Clone, Copy)]
-struct Beside {
+struct NodeInfo {
     newest: NameId,
     closed: bool,
     size: u16,
@@ -29,14 +29,14 @@ struct Beside {
 /// number k as the type variable k.
 #[derive(Drop)]
 pub struct Classes {
-    nodes: IndexMap<ClassNode, Beside>,
+    nodes: IndexMap<ClassNode, NodeInfo>,
 }
 
 impl Model for Classes {
     ghost use Rattle.std.specs.Prelude.{ℕ, List};
     ghost use Rattle.std.specs.Coded.{coded_list, coded_ℕ};
-    ghost use Rattle.ot_plain.specs.Trees.{Tm};
-    ghost use Rattle.ot_plain.specs.Codes.{coded_tm};
+    ghost use Rattle.ot_logic.specs.Trees.{Tm};
+    ghost use Rattle.ot_logic.specs.Codes.{coded_tm};
 
     ghost Value = { List (Tm ℕ) };
 
@@ -127,7 +127,7 @@ impl Classes {
     }
 
     /// What stands beside the node of a number.
-    fn beside(&self, id: ClassId) -> &Beside
+    fn beside(&self, id: ClassId) -> &NodeInfo
         requires { id < length self.now }
         ensures describes { Describes (class_at self.now id) result.now }
         ensures once { IsInjective self.now }
@@ -139,24 +139,24 @@ impl Classes {
     }
 
     /// What is to stand beside a new node.
-    fn beside_new(&self, node: &ClassNode) -> Beside
+    fn beside_new(&self, node: &ClassNode) -> NodeInfo
         requires { AreBelow (length self.now) node.now }
         ensures { Describes (tree_of self.now node.now) result }
     {
         match *node {
-            ClassNode::Free(v) => Beside {
+            ClassNode::Free(v) => NodeInfo {
                 newest: v.name,
                 closed: false,
                 size: 1,
             },
-            ClassNode::Const(_, _) | ClassNode::Bound(_) => Beside {
+            ClassNode::Const(_, _) | ClassNode::Bound(_) => NodeInfo {
                 newest: NameId::ARROW,
                 closed: true,
                 size: 1,
             },
             ClassNode::App(f, x) => {
                 let (f, x) = (self.beside(f), self.beside(x));
-                Beside {
+                NodeInfo {
                     newest: f.newest.max(x.newest),
                     closed: f.closed & x.closed,
                     size: f.size.saturating_add(x.size).saturating_add(1),
@@ -164,7 +164,7 @@ impl Classes {
             }
             ClassNode::Abs(_, body) => {
                 let body = self.beside(body);
-                Beside {
+                NodeInfo {
                     newest: body.newest,
                     closed: body.closed,
                     size: body.size.saturating_add(1),

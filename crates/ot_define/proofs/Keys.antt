@@ -7,13 +7,13 @@ use Rattle.std.proofs.lemmas.List.{map-append, append-nil}
 use Rattle.std.proofs.lemmas.List.Elements.{All-head, All-tail}
 use Rattle.std.proofs.lemmas.Bool.Decides.{Decides-like, Decides-eqb, same_from_decides}
 use Rattle.indexmap.specs.IndexSet.{insert_key}
-use Rattle.ot_plain.specs.Lists.{IsMember, IsPart, IsSameSet, AreDistinct}
-use Rattle.ot_plain.specs.Trees.{Ty, TyVar, Variable, Tm, Named, Symbol, ConSymbol}
-use Rattle.ot_plain.specs.Hol.{IsFree, same_var, nameless, named_type, type_of}
-use Rattle.ot_plain.specs.Hol.{vars_tm, vars_ty, symbols_tm, symbols_all}
-use Rattle.ot_plain.specs.Naming.{numbers}
-use Rattle.ot_plain.specs.Table.{IsInjective}
-use Rattle.ot_plain.proofs.TableLemmas.{get_or-IsInjective}
+use Rattle.ot_logic.specs.Lists.{IsMember, IsPart, IsSameSet, AreDistinct}
+use Rattle.ot_logic.specs.Trees.{Ty, TyVar, Variable, Tm, Named, Symbol, ConSymbol}
+use Rattle.ot_logic.specs.Hol.{IsFree, same_var, type_of, vars_tm, vars_ty, symbols_tm, symbols_all}
+use Rattle.ot_logic.specs.NamedTerms.{nameless, named_type}
+use Rattle.ot_logic.specs.Naming.{numbers}
+use Rattle.ot_logic.specs.Table.{IsInjective}
+use Rattle.ot_logic.proofs.TableLemmas.{get_or-IsInjective}
 use Rattle.ot_type.specs.TypeTable.{type_at}
 use Rattle.ot_laws.proofs.Tests.{tells_numbers, same_var-is}
 use Rattle.ot_laws.proofs.Sets.{same_set-then, same_set-append, same_set-self, same_set-swap, same_set-both_ways}
@@ -31,7 +31,7 @@ use Rattle.ot_term.proofs.GatherLemmas.{same_set-map}
 use Rattle.ot_laws.specs.Conditions.{same_symbol, is_among, is_closed_but, keeps_type_vars, are_distinct}
 use Rattle.ot_define.specs.Signature.{with_symbols}
 use Rattle.ot_laws.proofs.Membership.{part-is, part-same_set, is_closed_but-is, are_distinct-is}
-use Rattle.ot_plain.proofs.Members.{IsMember-map, IsMember-map_back, All-at_member}
+use Rattle.ot_logic.proofs.Members.{IsMember-map, IsMember-map_back, All-at_member}
 
 -- ---- symbols
 same-symbol : (s t : Code) → symbol_eq s t ≡ same_symbol numbers (symbol_of s) (symbol_of t)

@@ -5,11 +5,11 @@ use Rattle.std.proofs.Common.{◌≡◌, ℕ, ◌+◌, ◌<◌, length, get_or, 
 use Rattle.std.proofs.Common.{add-one, Bool, true, false, List, [], ◌∷◌, map, Option, Some}
 use Rattle.std.proofs.Common.{None, Result, Ok, Err, if◌then◌else◌, refl, sym, ap, subst, ◌∙◌}
 use Rattle.std.proofs.lemmas.Option.{same_Some}
-use Rattle.ot_plain.specs.Lists.{IsSameSet}
-use Rattle.ot_plain.specs.Trees.{Alphabet, Symbol}
-use Rattle.ot_plain.specs.Hol.{primitives}
-use Rattle.ot_plain.specs.Faults.{Fault, Primitive, AlreadyDefined, SymbolInUse}
-use Rattle.ot_plain.specs.Answers.{◌>>=◌, unless, some_or}
+use Rattle.ot_logic.specs.Lists.{IsSameSet}
+use Rattle.ot_logic.specs.Trees.{Alphabet, Symbol}
+use Rattle.ot_logic.specs.Hol.{primitives}
+use Rattle.ot_logic.specs.Faults.{Fault, Primitive, AlreadyDefined, SymbolInUse}
+use Rattle.ot_logic.specs.Answers.{◌>>=◌, unless, some_or}
 use Rattle.std.proofs.lemmas.List.Folds.{list_all_at}
 use Rattle.ot_laws.proofs.Tests.{Tells}
 use Rattle.ot_laws.specs.Conditions.{same_symbol, is_among, refuse_first, refuse_defined, checked_symbols}

@@ -1,12 +1,12 @@
 -- What the checks answer, against the conditions.
 use Rattle.std.specs.Prelude.{◌≡◌, ◌&&◌, ℕ, List, [], ◌∷◌, map, Result, Ok, Err, Option, Some, None}
-use Rattle.ot_plain.specs.Trees.{Alphabet, Variable, Named, Tm, Sequent}
+use Rattle.ot_logic.specs.Trees.{Alphabet, Variable, Named, Tm, Sequent}
 use Rattle.std.specs.List.{list_all}
-use Rattle.ot_plain.specs.Answers.{◌>>=◌, unless}
-use Rattle.ot_plain.specs.Hol.{nameless}
-use Rattle.ot_plain.specs.Naming.{numbers}
-use Rattle.ot_plain.specs.Faults.{Fault, Primitive, AlreadyDefined, SymbolInUse, NotClosed, TypeVarEscapes}
-use Rattle.ot_plain.specs.Faults.{BadDefinitionList, HypothesesPresent, NotApplication, BadTypeVars}
+use Rattle.ot_logic.specs.Answers.{◌>>=◌, unless}
+use Rattle.ot_logic.specs.NamedTerms.{nameless}
+use Rattle.ot_logic.specs.Naming.{numbers}
+use Rattle.ot_logic.specs.Faults.{Fault, Primitive, AlreadyDefined, SymbolInUse, NotClosed, TypeVarEscapes}
+use Rattle.ot_logic.specs.Faults.{BadDefinitionList, HypothesesPresent, NotApplication, BadTypeVars}
 use Rattle.ot_term.specs.TermTable.{term_at}
 use Rattle.ot_term.specs.Symbols.{symbol_of}
 use Rattle.ot_laws.specs.Conditions.{is_closed, is_closed_but, keeps_type_vars}

@@ -2,7 +2,7 @@
 use Rattle.std.specs.Prelude.{◌≡◌, ℕ, ◌⊎◌, refl}
 use Rattle.std.specs.Coded.{Coded, code_by, coded⊎, coded_ℕ}
 use Rattle.std.proofs.Common.{inl, inr}
-use Rattle.ot_plain.specs.Trees.{Symbol, ConSymbol, OpSymbol}
+use Rattle.ot_logic.specs.Trees.{Symbol, ConSymbol, OpSymbol}
 
 abbrev kind_of : Symbol ℕ → ℕ ⊎ ℕ
 kind_of (ConSymbol n) = inl n

@@ -1,8 +1,8 @@
 -- What contracts see of a signature: the symbols that were defined, and those that were used.
 use Rattle.std.specs.Prelude.{ℕ, List, [], ◌∷◌, ◌++◌, if◌then◌else◌, refl}
 use Rattle.std.specs.Coded.{Coded, code_by, coded×, coded_list}
-use Rattle.ot_plain.specs.Trees.{Symbol}
-use Rattle.ot_plain.specs.Naming.{numbers}
+use Rattle.ot_logic.specs.Trees.{Symbol}
+use Rattle.ot_logic.specs.Naming.{numbers}
 use Rattle.ot_laws.specs.Conditions.{is_among}
 use Rattle.ot_define.specs.Codes.{coded_symbol}
 

@@ -1,14 +1,14 @@
 //! The check of a constant.
 ghost use Rattle.std.specs.Prelude.{◌≡◌, ◌<◌, length};
 ghost use Rattle.ot_term.specs.declared.term.SymbolKind.TheVariants.{Con};
-ghost use Rattle.ot_plain.specs.Naming.{numbers};
+ghost use Rattle.ot_logic.specs.Naming.{numbers};
 ghost use Rattle.ot_laws.specs.Conditions.{checked_const};
 ghost use Rattle.ot_define.specs.Answers.{Checks, tm_at};
 
 use crate::fault::DefineFault;
 use crate::premise::{check_closed_but, check_type_vars};
 use crate::signature::Signature;
-use ot_plain::NameId;
+use ot_logic::NameId;
 use ot_term::{Symbol, SymbolKind, TermId, Terms};
 use std::alloc::Global;
 

@@ -2,7 +2,7 @@
 ghost use Rattle.std.specs.Prelude.{◌≡◌};
 ghost use Rattle.ot_define.specs.declared.fault.DefineFault.TheVariants.{Memory as OutOfMemory};
 
-use ot_plain::Memory;
+use ot_logic::Memory;
 use ot_term::Symbol;
 use std::alloc::{AllocError, AllocFailed};
 

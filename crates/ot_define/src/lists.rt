@@ -2,11 +2,11 @@
 ghost use Rattle.std.specs.Prelude.{◌≡◌, ◌<◌, ◌&&◌, ◌==◌, map, length, Option, Some, None, IfOk, IfSome, OnOk};
 ghost use Rattle.std.specs.List.{All, list_all};
 ghost use Rattle.std.specs.Option.{option_map};
-ghost use Rattle.ot_plain.specs.Faults.{BadDefinitionList, NotClosed, TypeVarEscapes};
-ghost use Rattle.ot_plain.specs.Trees.{ConSymbol, Free};
-ghost use Rattle.ot_plain.specs.Hol.{as_equation, same_tm, same_var, symbols_of};
-ghost use Rattle.ot_plain.specs.Naming.{numbers};
-ghost use Rattle.ot_plain.specs.Answers.{unless};
+ghost use Rattle.ot_logic.specs.Faults.{BadDefinitionList, NotClosed, TypeVarEscapes};
+ghost use Rattle.ot_logic.specs.Trees.{ConSymbol, Free};
+ghost use Rattle.ot_logic.specs.Hol.{as_equation, same_tm, same_var, symbols_of};
+ghost use Rattle.ot_logic.specs.Naming.{numbers};
+ghost use Rattle.ot_logic.specs.Answers.{unless};
 ghost use Rattle.ot_term.specs.TermTable.{variable_of};
 ghost use Rattle.ot_term.specs.declared.term.SymbolKind.TheVariants.{Con};
 ghost use Rattle.ot_laws.specs.Conditions.{are_distinct, checked_list, checked_symbols, given, given_by};
@@ -18,7 +18,7 @@ use crate::fault::DefineFault;
 use crate::premise::{check_closed_but, check_type_vars, pass_if};
 use crate::sets::are_distinct;
 use crate::signature::Signature;
-use ot_plain::{Memory, NameId};
+use ot_logic::{Memory, NameId};
 use ot_term::{Symbol, TermId, TermNode, Terms, VarKey};
 use std::alloc::Global;
 

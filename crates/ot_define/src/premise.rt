@@ -1,11 +1,11 @@
 //! What is asked of the terms of a definition.
 ghost use Rattle.std.specs.Prelude.{◌≡◌, ◌<◌, ◌++◌, if◌then◌else◌, map, length, Ok, Err, IfOk, OnOk};
 ghost use Rattle.std.specs.List.{All};
-ghost use Rattle.ot_plain.specs.Faults.{NotClosed, TypeVarEscapes};
-ghost use Rattle.ot_plain.specs.Lists.{IsSameSet};
-ghost use Rattle.ot_plain.specs.Hol.{symbols_tm, symbols_of};
-ghost use Rattle.ot_plain.specs.Naming.{numbers};
-ghost use Rattle.ot_plain.specs.Answers.{unless};
+ghost use Rattle.ot_logic.specs.Faults.{NotClosed, TypeVarEscapes};
+ghost use Rattle.ot_logic.specs.Lists.{IsSameSet};
+ghost use Rattle.ot_logic.specs.Hol.{symbols_tm, symbols_of};
+ghost use Rattle.ot_logic.specs.Naming.{numbers};
+ghost use Rattle.ot_logic.specs.Answers.{unless};
 ghost use Rattle.ot_term.specs.TermTable.{variable_of};
 ghost use Rattle.ot_term.specs.Symbols.{symbol_of};
 ghost use Rattle.ot_laws.specs.Conditions.{is_closed_but, keeps_type_vars};
@@ -14,7 +14,7 @@ ghost use Rattle.ot_define.specs.Answers.{Checks, tm_at, sequent_at};
 use crate::fault::DefineFault;
 use crate::sets::{add_all, are_among};
 use indexmap::IndexSet;
-use ot_plain::Memory;
+use ot_logic::Memory;
 use ot_term::{Symbol, TermId, Terms, VarKey};
 use std::alloc::Global;
 

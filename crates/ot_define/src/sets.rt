@@ -3,11 +3,11 @@ ghost use Rattle.std.specs.Prelude.{◌≡◌, [], fold, IfOk, OnOk, OnErr};
 ghost use Rattle.std.specs.Bool.{Decides};
 ghost use Rattle.std.specs.List.{list_all, list_any};
 ghost use Rattle.indexmap.specs.IndexSet.{insert_key};
-ghost use Rattle.ot_plain.specs.Naming.{numbers};
+ghost use Rattle.ot_logic.specs.Naming.{numbers};
 ghost use Rattle.ot_laws.specs.Conditions.{are_distinct};
 
 use indexmap::IndexSet;
-use ot_plain::Memory;
+use ot_logic::Memory;
 use std::alloc::Global;
 use std::hash::Hash;
 

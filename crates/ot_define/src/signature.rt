@@ -1,9 +1,9 @@
 //! The symbols of a run so far, and the checks of symbols against them.
 ghost use Rattle.std.specs.Prelude.{◌≡◌, ◌<◌, ◌||◌, ◌++◌, [], length, map, OnOk, OnErr};
 ghost use Rattle.std.specs.List.{All, find};
-ghost use Rattle.ot_plain.specs.Faults.{Primitive, SymbolInUse};
-ghost use Rattle.ot_plain.specs.Hol.{primitives, symbols_of};
-ghost use Rattle.ot_plain.specs.Naming.{numbers};
+ghost use Rattle.ot_logic.specs.Faults.{Primitive, SymbolInUse};
+ghost use Rattle.ot_logic.specs.Hol.{primitives, symbols_of};
+ghost use Rattle.ot_logic.specs.Naming.{numbers};
 ghost use Rattle.ot_term.specs.Symbols.{symbol_of};
 ghost use Rattle.ot_laws.specs.Conditions.{checked_symbols, is_among, refuse_defined, refuse_first};
 ghost use Rattle.ot_define.specs.Answers.{Checks, sequent_at};
@@ -12,7 +12,7 @@ use crate::fault::DefineFault;
 use crate::premise::symbols_in;
 use crate::sets::add_all;
 use indexmap::IndexSet;
-use ot_plain::{Memory, NameId};
+use ot_logic::{Memory, NameId};
 use ot_term::{Symbol, SymbolKind, TermId, Terms};
 use std::alloc::Global;
 use std::marker::Model;

@@ -2,11 +2,11 @@
 ghost use Rattle.std.specs.Prelude.{◌≡◌, ◌<◌, ◌&&◌, map, length, IfOk, IfSome};
 ghost use Rattle.std.specs.List.{All};
 ghost use Rattle.std.specs.Option.{option_map};
-ghost use Rattle.ot_plain.specs.Faults.{BadTypeVars};
+ghost use Rattle.ot_logic.specs.Faults.{BadTypeVars};
 ghost use Rattle.ot_term.specs.declared.term.SymbolKind.TheVariants.{TyOp};
-ghost use Rattle.ot_plain.specs.Hol.{vars_tm};
-ghost use Rattle.ot_plain.specs.Naming.{numbers};
-ghost use Rattle.ot_plain.specs.Answers.{unless};
+ghost use Rattle.ot_logic.specs.Hol.{vars_tm};
+ghost use Rattle.ot_logic.specs.Naming.{numbers};
+ghost use Rattle.ot_logic.specs.Answers.{unless};
 ghost use Rattle.ot_laws.specs.Conditions.{are_distinct, are_names_of, checked_type, function_of};
 ghost use Rattle.ot_define.specs.Answers.{Checks, tm_at, sequent_at};
 
@@ -15,7 +15,7 @@ use crate::fault::DefineFault;
 use crate::premise::{check_closed_but, pass_if};
 use crate::sets::{are_among, are_distinct};
 use crate::signature::Signature;
-use ot_plain::NameId;
+use ot_logic::NameId;
 use ot_term::{Symbol, SymbolKind, TermId, TermNode, Terms};
 use std::alloc::Global;
 

@@ -2,9 +2,9 @@
 use Rattle.std.specs.Prelude.{slice_get}
 use Rattle.std.specs.Option.{option_and_then}
 use Rattle.std.proofs.Common.{◌≡◌, ℕ, [], ◌∷◌, Some, refl, ap, ◌∙◌}
-use Rattle.ot_plain.specs.Names.{Name}
-use Rattle.ot_plain.specs.Naming.{names}
-use Rattle.ot_plain.specs.Trees.{Sequent}
+use Rattle.ot_logic.specs.Names.{Name}
+use Rattle.ot_logic.specs.Naming.{names}
+use Rattle.ot_logic.specs.Trees.{Sequent}
 use Rattle.ot_records.specs.declared.word.RecordWord.TheVariants as words
 use Rattle.ot_records.specs.Tokens.{NoMore}
 use Rattle.ot_records.specs.State.{LogState, nothing_made, kept_once, makes_result}

@@ -1,11 +1,11 @@
 -- The records of a word that stands for several make its sequent.
 use Rattle.std.specs.Prelude.{is_some}
 use Rattle.std.proofs.Common.{◌≡◌, true, List, [], ◌∷◌, Ok, refl, ap, ◌∙◌, inl, inr}
-use Rattle.ot_plain.specs.Lists.{IsSameSet}
-use Rattle.ot_plain.specs.Trees.{Alphabet, Ty, Tm, App, Sequent}
-use Rattle.ot_plain.specs.Hol.{same_ty, fun_ty, bool_ty, as_fun_ty, type_of, HasType}
-use Rattle.ot_plain.specs.Hol.{same_tm, equation, as_equation, minus, union, sequent_of}
-use Rattle.ot_plain.specs.Answers.{◌>>=◌, unless, some_or}
+use Rattle.ot_logic.specs.Lists.{IsSameSet}
+use Rattle.ot_logic.specs.Trees.{Alphabet, Ty, Tm, App, Sequent}
+use Rattle.ot_logic.specs.Hol.{same_ty, fun_ty, bool_ty, as_fun_ty, type_of, HasType}
+use Rattle.ot_logic.specs.Hol.{same_tm, equation, as_equation, minus, union, sequent_of}
+use Rattle.ot_logic.specs.Answers.{◌>>=◌, unless, some_or}
 use Rattle.ot_laws.proofs.Tests.{Tells, same_ty-is, same_tm-is}
 use Rattle.ot_laws.proofs.Typing.{type_of-is, as_fun_ty-fun, app-typed}
 use Rattle.ot_laws.proofs.Equations.{as_equation-equation}

@@ -4,11 +4,11 @@ use Rattle.std.specs.List.{list_any, position_or_len}
 use Rattle.std.specs.Option.{option_and_then}
 use Rattle.std.proofs.Common.{◌≡◌, ℕ, suc, ◌+◌, Bool, true, false, ◌||◌, cond, List, [], ◌∷◌}
 use Rattle.std.proofs.Common.{map, Option, Some, None, Result, Ok, refl, sym, ap, ◌∙◌, arith}
-use Rattle.ot_plain.specs.Names.{Name}
-use Rattle.ot_plain.specs.Naming.{names}
-use Rattle.ot_plain.specs.Trees.{Ty, Tm, Sequent}
-use Rattle.ot_plain.specs.Hol.{same_ty, same_tm}
-use Rattle.ot_plain.specs.Answers.{◌>>=◌, some_or}
+use Rattle.ot_logic.specs.Names.{Name}
+use Rattle.ot_logic.specs.Naming.{names}
+use Rattle.ot_logic.specs.Trees.{Ty, Tm, Sequent}
+use Rattle.ot_logic.specs.Hol.{same_ty, same_tm}
+use Rattle.ot_logic.specs.Answers.{◌>>=◌, some_or}
 use Rattle.ot_laws.proofs.Tests.{tells_names, same_ty-is, same_tm-is}
 use Rattle.ot_records.specs.declared.word.RecordWord.{RecordWord}
 use Rattle.ot_records.specs.declared.word.RecordWord.TheVariants as words

@@ -2,10 +2,10 @@
 use Rattle.std.specs.Prelude.{if◌then◌else◌, ◌&&◌}
 use Rattle.std.specs.List.{list_all}
 use Rattle.std.proofs.Common.{◌≡◌, Bool, true, false, [], ◌∷◌, map, Ok, refl, ap, ◌∙◌}
-use Rattle.ot_plain.specs.Trees.{Alphabet, Variable, Tm, Sequent}
-use Rattle.ot_plain.specs.Hol.{same_var, TypeMap, TermMap, subst_tm, once_each, IsTyped}
-use Rattle.ot_plain.specs.Answers.{◌>>=◌, unless}
-use Rattle.ot_plain.specs.Rules.{has_type, subst_rule}
+use Rattle.ot_logic.specs.Trees.{Alphabet, Variable, Tm, Sequent}
+use Rattle.ot_logic.specs.Hol.{same_var, TypeMap, TermMap, subst_tm, once_each, IsTyped}
+use Rattle.ot_logic.specs.Answers.{◌>>=◌, unless}
+use Rattle.ot_logic.specs.Rules.{has_type, subst_rule}
 use Rattle.ot_laws.proofs.Tests.{Tells, has_type-is}
 use Rattle.ot_laws.proofs.Steps.{within_limit-ok}
 use Rattle.ot_records.specs.Tokens.{BadStep}

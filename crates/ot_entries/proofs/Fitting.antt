@@ -3,9 +3,9 @@ use Rattle.std.specs.Prelude.{nat_le}
 use Rattle.std.proofs.Common.{◌≡◌, ℕ, ◌+◌, ◌≤◌, true, ◌&&◌, List, [], ◌∷◌}
 use Rattle.std.proofs.Common.{Option, Some, None, refl, sym, subst, arith}
 use Rattle.std.proofs.lemmas.Bool.{and_parts}
-use Rattle.ot_plain.specs.Trees.{Alphabet, Ty, Tm, Free, Con, Bound, App, Abs}
-use Rattle.ot_plain.specs.Hol.{depth_limit, depth_ty, depth_tm, fun_ty, bool_ty, type_in}
-use Rattle.ot_plain.specs.Hol.{HasType, equation, is_shallow_type, has_shallow_types, is_shallow}
+use Rattle.ot_logic.specs.Trees.{Alphabet, Ty, Tm, Free, Con, Bound, App, Abs}
+use Rattle.ot_logic.specs.Hol.{depth_limit, depth_ty, depth_tm, fun_ty, bool_ty, type_in}
+use Rattle.ot_logic.specs.Hol.{HasType, equation, is_shallow_type, has_shallow_types, is_shallow}
 use Rattle.ot_laws.proofs.Tests.{Tells}
 use Rattle.ot_laws.proofs.Typing.{app-typed}
 use Rattle.ot_laws.proofs.Equations.{equation-typed}

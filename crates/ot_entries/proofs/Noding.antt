@@ -4,11 +4,11 @@ use Rattle.std.specs.List.{list_any}
 use Rattle.std.proofs.Common.{◌≡◌, ℕ, suc, ◌≤◌, Bool, true, false, List, [], ◌∷◌}
 use Rattle.std.proofs.Common.{◌++◌, refl, sym, ap, subst, ◌∙◌, inl, inr, ◌⊎◌, arith}
 use Rattle.std.proofs.lemmas.List.Folds.{list_any-append}
-use Rattle.ot_plain.specs.Lists.{IsMember}
-use Rattle.ot_plain.specs.Names.{Name}
-use Rattle.ot_plain.specs.Naming.{names}
-use Rattle.ot_plain.specs.Trees.{Ty, Tys, TyVar, TyOp, NoTys, MoreTys, Tm, Free, Con, Bound, App, Abs}
-use Rattle.ot_plain.specs.Hol.{depth_ty, depth_all, depth_tm, same_ty, same_tm}
+use Rattle.ot_logic.specs.Lists.{IsMember}
+use Rattle.ot_logic.specs.Names.{Name}
+use Rattle.ot_logic.specs.Naming.{names}
+use Rattle.ot_logic.specs.Trees.{Ty, Tys, TyVar, TyOp, NoTys, MoreTys, Tm, Free, Con, Bound, App, Abs}
+use Rattle.ot_logic.specs.Hol.{depth_ty, depth_all, depth_tm, same_ty, same_tm}
 use Rattle.ot_laws.proofs.Tests.{tells_names, same_ty-is, same_tm-is}
 use Rattle.ot_entries.specs.Entries.{Node, TypeNode, TermNode, node_entry, type_parts}
 use Rattle.ot_entries.specs.Entries.{types_nodes, type_nodes, term_parts, term_nodes}

@@ -1,8 +1,8 @@
 -- The tokens of a record, read back.
 use Rattle.std.specs.Prelude.{slice_get}
 use Rattle.std.proofs.Common.{◌≡◌, ℕ, suc, true, List, [], ◌∷◌, ◌++◌, Some, Result, Ok, refl, sym, ap, ◌∙◌}
-use Rattle.ot_plain.specs.Answers.{◌>>=◌, unless}
-use Rattle.ot_plain.specs.Trees.{Alphabet, Sequent}
+use Rattle.ot_logic.specs.Answers.{◌>>=◌, unless}
+use Rattle.ot_logic.specs.Trees.{Alphabet, Sequent}
 use Rattle.ot_records.specs.declared.word.RecordWord.TheVariants as words
 use Rattle.ot_records.specs.Tokens.{LogFault, LogNesting, Token, Number, Word, Tokens, Then, spelling}
 use Rattle.ot_records.specs.Steps.{Step, is_sequent_within, eq_mp_step, app_thm_step}

@@ -3,14 +3,14 @@ use Rattle.std.specs.Prelude.{not, is_some, ◌&&◌}
 use Rattle.std.specs.List.{list_all}
 use Rattle.std.proofs.Common.{◌≡◌, Bool, true, List, [], ◌∷◌, Ok, refl, ap, ◌∙◌, arith}
 use Rattle.std.proofs.lemmas.Bool.{and_parts}
-use Rattle.ot_plain.specs.Trees.{Alphabet, Ty, Variable, Tm, App, Abs, Sequent}
-use Rattle.ot_plain.specs.Hol.{same_ty, fun_ty, bool_ty, as_fun_ty, type_of, IsWellTyped, close}
-use Rattle.ot_plain.specs.Hol.{opened, is_shallow, is_shallow_sequent, same_tm, equation}
-use Rattle.ot_plain.specs.Hol.{as_equation, minus, union, is_free_in_some, sequent_of}
-use Rattle.ot_plain.specs.Faults.{NotBool, NotEquation, NotAlphaEqual, VarFreeInHyps, NotFunction, ArgumentType}
-use Rattle.ot_plain.specs.Answers.{◌>>=◌, unless, some_or}
-use Rattle.ot_plain.specs.Rules.{has_type, within_limit, sides, refl_rule, assume_rule, eq_mp_rule}
-use Rattle.ot_plain.specs.Rules.{abs_thm_rule, app_thm_rule, deduct_antisym_rule, beta_conv_rule}
+use Rattle.ot_logic.specs.Trees.{Alphabet, Ty, Variable, Tm, App, Abs, Sequent}
+use Rattle.ot_logic.specs.Hol.{same_ty, fun_ty, bool_ty, as_fun_ty, type_of, IsWellTyped, close}
+use Rattle.ot_logic.specs.Hol.{opened, is_shallow, is_shallow_sequent, same_tm, equation}
+use Rattle.ot_logic.specs.Hol.{as_equation, minus, union, is_free_in_some, sequent_of}
+use Rattle.ot_logic.specs.Faults.{NotBool, NotEquation, NotAlphaEqual, VarFreeInHyps, NotFunction, ArgumentType}
+use Rattle.ot_logic.specs.Answers.{◌>>=◌, unless, some_or}
+use Rattle.ot_logic.specs.Rules.{has_type, within_limit, sides, refl_rule, assume_rule, eq_mp_rule}
+use Rattle.ot_logic.specs.Rules.{abs_thm_rule, app_thm_rule, deduct_antisym_rule, beta_conv_rule}
 use Rattle.ot_laws.proofs.Tests.{Tells}
 use Rattle.ot_laws.proofs.Steps.{within_limit-ok, limit-ok}
 use Rattle.ot_records.specs.Tokens.{BadStep}
@@ -18,7 +18,7 @@ use Rattle.ot_records.specs.Steps.{Step, is_well_typed, is_within, is_sequent_wi
 use Rattle.ot_records.specs.Steps.{sides_of, refl_step, assume_step, eq_mp_step, abs_thm_step}
 use Rattle.ot_records.specs.Steps.{app_thm_step, deduct_antisym_step, beta_step}
 use Rattle.ot_entries.proofs.Fitting.{fits-shallow, within-fits}
-use Rattle.ot_plain.proofs.Results.{bind-ok, same_Ok, some_or-ok, unless-ok}
+use Rattle.ot_logic.proofs.Results.{bind-ok, same_Ok, some_or-ok, unless-ok}
 
 module _ {N : Type 0} (alphabet : Alphabet N) (tells : Tells alphabet) where
   -- ---- the limit

@@ -3,12 +3,12 @@ use Rattle.std.specs.Prelude.{not}
 use Rattle.std.specs.List.{list_all}
 use Rattle.std.proofs.Common.{◌≡◌, Bool, true, List, [], ◌∷◌, map, Ok, refl, sym, ap, ◌∙◌, subst, inl, inr}
 use Rattle.std.proofs.lemmas.Bool.Decides.{Decides-like, same_from_decides}
-use Rattle.ot_plain.specs.Lists.{IsMember, IsPart, IsSameSet}
-use Rattle.ot_plain.specs.Trees.{Alphabet, Ty, Variable, Tm, App, Abs, Sequent}
-use Rattle.ot_plain.specs.Hol.{same_ty, fun_ty, bool_ty, as_fun_ty, IsFree, IsFreeInSome, is_free_in_some, close}
-use Rattle.ot_plain.specs.Hol.{TypeMap, TermMap, subst_tm, once_each, same_tm, equation, as_equation, minus, union}
-use Rattle.ot_plain.specs.Answers.{◌>>=◌, unless, some_or}
-use Rattle.ot_plain.specs.Rules.{has_type}
+use Rattle.ot_logic.specs.Lists.{IsMember, IsPart, IsSameSet}
+use Rattle.ot_logic.specs.Trees.{Alphabet, Ty, Variable, Tm, App, Abs, Sequent}
+use Rattle.ot_logic.specs.Hol.{same_ty, fun_ty, bool_ty, as_fun_ty, IsFree, IsFreeInSome, is_free_in_some, close}
+use Rattle.ot_logic.specs.Hol.{TypeMap, TermMap, subst_tm, once_each, same_tm, equation, as_equation, minus, union}
+use Rattle.ot_logic.specs.Answers.{◌>>=◌, unless, some_or}
+use Rattle.ot_logic.specs.Rules.{has_type}
 use Rattle.ot_laws.proofs.Tests.{Tells, is_free_in_some-is}
 use Rattle.ot_laws.proofs.Hypotheses.{IsMember-union, IsMember-minus, IsMember-minus_back, distinct-union}
 use Rattle.ot_laws.proofs.Hypotheses.{distinct-minus, IsMember-once_each, distinct-once_each}
@@ -16,8 +16,8 @@ use Rattle.ot_records.specs.Tokens.{BadStep}
 use Rattle.ot_records.specs.Steps.{Step, sides_of, first_pairs, eq_mp_step, abs_thm_step}
 use Rattle.ot_records.specs.Steps.{app_thm_step, deduct_antisym_step, subst_step}
 use Rattle.ot_entries.specs.Making.{IsSame}
-use Rattle.ot_plain.proofs.Members.{IsMember-map, IsMember-map_back}
-use Rattle.ot_plain.proofs.Results.{bind-ok, same_Ok, unless-ok}
+use Rattle.ot_logic.proofs.Members.{IsMember-map, IsMember-map_back}
+use Rattle.ot_logic.proofs.Results.{bind-ok, same_Ok, unless-ok}
 
 module _ {N : Type 0} (alphabet : Alphabet N) (tells : Tells alphabet) where
   part-union : (g g' h h' : List (Tm N)) → IsPart g g' → IsPart h h'

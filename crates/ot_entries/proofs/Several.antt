@@ -2,10 +2,10 @@
 use Rattle.std.specs.Prelude.{slice_get}
 use Rattle.std.proofs.Common.{◌≡◌, ℕ, suc, ◌+◌, true, List, [], ◌∷◌, ◌++◌, length, Some}
 use Rattle.std.proofs.Common.{refl, sym, ap, ◌∙◌, arith, append-nil, append_assoc}
-use Rattle.ot_plain.specs.Names.{Name}
-use Rattle.ot_plain.specs.Naming.{names}
-use Rattle.ot_plain.specs.Trees.{Ty, Tm, App, Sequent}
-use Rattle.ot_plain.specs.Hol.{fun_ty, bool_ty, HasType, equation, minus, union, sequent_of}
+use Rattle.ot_logic.specs.Names.{Name}
+use Rattle.ot_logic.specs.Naming.{names}
+use Rattle.ot_logic.specs.Trees.{Ty, Tm, App, Sequent}
+use Rattle.ot_logic.specs.Hol.{fun_ty, bool_ty, HasType, equation, minus, union, sequent_of}
 use Rattle.ot_laws.proofs.Tests.{tells_names}
 use Rattle.ot_laws.proofs.Typing.{app-typed}
 use Rattle.ot_records.specs.declared.word.RecordWord.TheVariants as words
@@ -18,7 +18,7 @@ use Rattle.ot_entries.proofs.Expanding.{refl-gives, eq_mp-gives, app_thm-gives, 
 use Rattle.ot_entries.proofs.Standing.{Stands, AreWithin}
 use Rattle.ot_entries.proofs.Sequents.{MakesOne, sequent-stands, refl-feeds}
 use Rattle.ot_entries.proofs.Sequents.{eq_mp-feeds, app_thm-feeds, deduct_antisym-feeds}
-use Rattle.ot_plain.proofs.TableLemmas.{slice_get-append_left}
+use Rattle.ot_logic.proofs.TableLemmas.{slice_get-append_left}
 
 -- ---- elements of lists that were put together
 

@@ -3,11 +3,11 @@ use Rattle.std.specs.Prelude.{nat_le}
 use Rattle.std.specs.List.{flat_map}
 use Rattle.std.proofs.Common.{◌≡◌, ℕ, ◌≤◌, Bool, true, false, cond, List, [], ◌∷◌, ◌++◌, map}
 use Rattle.std.proofs.Common.{length, Some, Ok, refl, sym, ap, subst, ◌∙◌, arith, append_assoc}
-use Rattle.ot_plain.specs.Names.{Name}
-use Rattle.ot_plain.specs.Naming.{names}
-use Rattle.ot_plain.specs.Trees.{Ty, Tys, TyVar, TyOp, NoTys, MoreTys, Tm, Free, Con, Bound, App, Abs}
-use Rattle.ot_plain.specs.Hol.{depth_ty, depth_tm}
-use Rattle.ot_plain.specs.Answers.{◌>>=◌, unless}
+use Rattle.ot_logic.specs.Names.{Name}
+use Rattle.ot_logic.specs.Naming.{names}
+use Rattle.ot_logic.specs.Trees.{Ty, Tys, TyVar, TyOp, NoTys, MoreTys, Tm, Free, Con, Bound, App, Abs}
+use Rattle.ot_logic.specs.Hol.{depth_ty, depth_tm}
+use Rattle.ot_logic.specs.Answers.{◌>>=◌, unless}
 use Rattle.ot_records.specs.Tokens.{LogNesting, Token, Word, spelling}
 use Rattle.ot_records.specs.Steps.{log_depth}
 use Rattle.ot_records.specs.State.{LogState, Change, nothing_made, makes_type, makes_term}

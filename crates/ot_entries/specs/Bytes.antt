@@ -1,7 +1,7 @@
 -- The bytes of tokens, one on a line.
 use Rattle.std.specs.Prelude.{ℕ, List, [], ◌∷◌, ◌++◌}
 use Rattle.std.specs.List.{flat_map}
-use Rattle.ot_plain.specs.Names.{Name, spelled}
+use Rattle.ot_logic.specs.Names.{Name, spelled}
 use Rattle.ot_text.specs.Texts.{number_text}
 use Rattle.ot_records.specs.Tokens.{Token, Number, Named, Word}
 

@@ -1,7 +1,7 @@
 -- A log that has the parts of its types and terms.
 use Rattle.std.specs.Prelude.{◌≡◌, true, List, [], ◌∷◌, ◌++◌}
-use Rattle.ot_plain.specs.Names.{Name}
-use Rattle.ot_plain.specs.Trees.{Ty, Tm}
+use Rattle.ot_logic.specs.Names.{Name}
+use Rattle.ot_logic.specs.Trees.{Ty, Tm}
 use Rattle.ot_entries.specs.Entries.{Node, TypeNode, TermNode, type_parts, term_parts}
 use Rattle.ot_entries.specs.Logged.{Log, is_among}
 

@@ -1,8 +1,8 @@
 -- Records of a log with what they name: names, counts, and types and terms themselves in place of their numbers.
 use Rattle.std.specs.Prelude.{ℕ, zero, suc, List, [], ◌∷◌, ◌++◌}
 use Rattle.std.specs.List.{flat_map}
-use Rattle.ot_plain.specs.Names.{Name}
-use Rattle.ot_plain.specs.Trees.{Ty, Tys, TyVar, TyOp, NoTys, MoreTys, Tm, Free, Con, Bound, App, Abs}
+use Rattle.ot_logic.specs.Names.{Name}
+use Rattle.ot_logic.specs.Trees.{Ty, Tys, TyVar, TyOp, NoTys, MoreTys, Tm, Free, Con, Bound, App, Abs}
 use Rattle.ot_records.specs.declared.word.RecordWord.{RecordWord}
 use Rattle.ot_records.specs.declared.word.RecordWord.TheVariants as words
 

@@ -3,10 +3,10 @@ use Rattle.std.specs.Prelude.{ℕ, ◌+◌, cond, ◌&&◌, not, List, [], ◌�
 use Rattle.std.specs.List.{flat_map}
 use Rattle.std.specs.declared.cmp.Ordering.{Ordering}
 use Rattle.std.specs.declared.cmp.Ordering.TheVariants.{Less, Equal, Greater}
-use Rattle.ot_plain.specs.Names.{Name}
-use Rattle.ot_plain.specs.Naming.{names}
-use Rattle.ot_plain.specs.Trees.{Ty, Variable, Tm, Con, App, Sequent}
-use Rattle.ot_plain.specs.Hol.{fun_ty, bool_ty, same_tm, is_in, as_equation, TypeMap, TermMap}
+use Rattle.ot_logic.specs.Names.{Name}
+use Rattle.ot_logic.specs.Naming.{names}
+use Rattle.ot_logic.specs.Trees.{Ty, Variable, Tm, Con, App, Sequent}
+use Rattle.ot_logic.specs.Hol.{fun_ty, bool_ty, same_tm, is_in, as_equation, TypeMap, TermMap}
 use Rattle.ot_text.specs.Texts.{order, tm_text}
 use Rattle.ot_records.specs.declared.word.RecordWord.{RecordWord}
 use Rattle.ot_records.specs.declared.word.RecordWord.TheVariants as words

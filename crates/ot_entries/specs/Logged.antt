@@ -1,10 +1,10 @@
 -- A log that is put together: what was written so far, and what a record adds.
 use Rattle.std.specs.Prelude.{ℕ, suc, Bool, if◌then◌else◌, codes, List, [], ◌∷◌, ◌++◌, map}
 use Rattle.std.specs.List.{list_any, position_or_len}
-use Rattle.ot_plain.specs.Names.{Name}
-use Rattle.ot_plain.specs.Naming.{names}
-use Rattle.ot_plain.specs.Trees.{Ty, Tm}
-use Rattle.ot_plain.specs.Hol.{same_ty, same_tm}
+use Rattle.ot_logic.specs.Names.{Name}
+use Rattle.ot_logic.specs.Naming.{names}
+use Rattle.ot_logic.specs.Trees.{Ty, Tm}
+use Rattle.ot_logic.specs.Hol.{same_ty, same_tm}
 use Rattle.ot_records.specs.Tokens.{Token, Number, Named, Word, spelling}
 use Rattle.ot_entries.specs.Entries.{Operand, Count, AName, AType, ATerm, ASequent, Entry}
 use Rattle.ot_entries.specs.Entries.{Node, TypeNode, TermNode, node_entry, nodes_before}

@@ -1,9 +1,9 @@
 -- The words of an article that stand for several records of a log.
 use Rattle.std.specs.Prelude.{◌≡◌, List, [], ◌∷◌, Result, Ok, if◌then◌else◌, ◌&&◌, not}
-use Rattle.ot_plain.specs.Lists.{IsSameSet, AreDistinct}
-use Rattle.ot_plain.specs.Trees.{Alphabet, Ty, Tm, Con, App, Sequent}
-use Rattle.ot_plain.specs.Hol.{fun_ty, bool_ty, same_tm, is_in}
-use Rattle.ot_plain.specs.Answers.{◌>>=◌}
+use Rattle.ot_logic.specs.Lists.{IsSameSet, AreDistinct}
+use Rattle.ot_logic.specs.Trees.{Alphabet, Ty, Tm, Con, App, Sequent}
+use Rattle.ot_logic.specs.Hol.{fun_ty, bool_ty, same_tm, is_in}
+use Rattle.ot_logic.specs.Answers.{◌>>=◌}
 use Rattle.ot_records.specs.Tokens.{LogFault}
 use Rattle.ot_records.specs.Steps.{sides_of, refl_step, eq_mp_step, app_thm_step, deduct_antisym_step}
 

@@ -1,6 +1,6 @@
 -- Names in the lines that say what stands for variables.
 use Rattle.std.proofs.Common.{◌≡◌, [], ◌∷◌, refl, arith}
-use Rattle.ot_plain.specs.Names.{Name, IsName, spelled}
+use Rattle.ot_logic.specs.Names.{Name, IsName, spelled}
 use Rattle.ot_text.specs.Texts.{name_text}
 
 -- a name is spelled

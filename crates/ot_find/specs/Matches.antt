@@ -1,9 +1,9 @@
 -- The exports of several sources whose conclusion a pattern matches, with the maps.
 use Rattle.std.specs.Prelude.{◌≡◌, ◌↔◌, ℕ, List, [], ◌∷◌, ◌++◌, Option, Some, None, ◌⊎◌}
-use Rattle.ot_plain.specs.Names.{Name}
-use Rattle.ot_plain.specs.Naming.{names}
-use Rattle.ot_plain.specs.Trees.{Tm, Sequent}
-use Rattle.ot_plain.specs.Hol.{TypeMap, TermMap}
+use Rattle.ot_logic.specs.Names.{Name}
+use Rattle.ot_logic.specs.Naming.{names}
+use Rattle.ot_logic.specs.Trees.{Tm, Sequent}
+use Rattle.ot_logic.specs.Hol.{TypeMap, TermMap}
 use Rattle.ot_match.specs.Matching.{matched, IsMatch}
 
 -- where theorems come from: what it is called, and its exports in order

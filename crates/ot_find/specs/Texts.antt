@@ -1,7 +1,7 @@
 -- The text of the matches of a pattern.
 use Rattle.std.specs.Prelude.{◌≡◌, ℕ, false, List, [], ◌∷◌, ◌++◌, map, length, codes}
-use Rattle.ot_plain.specs.Names.{Name}
-use Rattle.ot_plain.specs.Trees.{Ty, TyVar, Variable, Tm, Free}
+use Rattle.ot_logic.specs.Names.{Name}
+use Rattle.ot_logic.specs.Trees.{Ty, TyVar, Variable, Tm, Free}
 use Rattle.ot_text.specs.Texts.{ty_text, tm_text, sequent_text, number_text, ascending}
 use Rattle.ot_text.specs.Pages.{Bytes, is_stopped, IsPut, printed}
 use Rattle.ot_text.specs.Sections.{indented_text}

@@ -8,7 +8,7 @@ ghost use Rattle.ot_text.specs.Sections.{indented_text};
 ghost use Rattle.ot_find.specs.Texts.{type_line, variable_line};
 
 use ot_kernel::Kernel;
-use ot_plain::Name;
+use ot_logic::Name;
 use ot_print::InKernel;
 use ot_term::TermId;
 use ot_text::{Page, Printable, gathered, put_indented};

@@ -1,8 +1,8 @@
 //! A search among the exports of several sources.
 ghost use Rattle.std.specs.Prelude.{◌≡◌, ◌<◌, ◌+◌, ◌++◌, List, [], codes, length, map, OnOk, OnErr, Err};
 ghost use Rattle.std.specs.List.{All};
-ghost use Rattle.ot_plain.specs.Naming.{names};
-ghost use Rattle.ot_plain.specs.PlainTrees.{term_of_tree};
+ghost use Rattle.ot_logic.specs.Naming.{names};
+ghost use Rattle.ot_logic.specs.PlainTrees.{term_of_tree};
 ghost use Rattle.ot_kernel.specs.State.{theorem_at};
 ghost use Rattle.ot_text.specs.Pages.{IsPut, printed, Appended};
 ghost use Rattle.ot_text.specs.Texts.{number_text};
@@ -13,8 +13,8 @@ ghost use Rattle.ot_find.specs.Texts.{found_text, find_text, HasFound};
 
 use crate::lines::{InMatch, put_pairs};
 use ot_kernel::{Kernel, ThmId};
+use ot_logic::{Memory, Tm};
 use ot_match::{Match, find_match};
-use ot_plain::{Memory, Tm};
 use ot_print::InKernel;
 use ot_text::{Page, PrintFault, Printable};
 use std::alloc::Global;

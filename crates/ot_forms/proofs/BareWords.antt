@@ -3,7 +3,7 @@ use Rattle.std.specs.Prelude.{◌≡◌, ℕ, ◌==◌, ◌||◌, ◌&&◌, not,
 use Rattle.std.specs.List.{list_all}
 use Rattle.std.proofs.Common.{refl, sym, ◌∙◌, ap, subst, append_assoc, lit<, arith}
 use Rattle.std.proofs.lemmas.Bool.{eqb-true, and_parts, and_from}
-use Rattle.ot_plain.specs.Names.{Name, IsName}
+use Rattle.ot_logic.specs.Names.{Name, IsName}
 use Rattle.ot_forms.specs.Words.{is_letter, is_inner, is_part, is_bare, dotted}
 use Rattle.ot_forms.specs.Reading.{NoForm, Got, Halted, mapped, before, bare_at, bare_on}
 use Rattle.ot_forms.proofs.Readers.{Follows, Reads, behind, at_byte, at_end, halts_here, ends_here}

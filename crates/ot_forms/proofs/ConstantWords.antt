@@ -3,9 +3,9 @@ use Rattle.std.specs.Prelude.{◌≡◌, ℕ, ◌==◌, ◌||◌, ◌&&◌, not,
 use Rattle.std.specs.List.{list_all}
 use Rattle.std.proofs.Common.{refl, sym, ◌∙◌, ap, subst, inl, inr, arith}
 use Rattle.std.proofs.lemmas.Bool.{and_parts}
-use Rattle.ot_plain.specs.Names.{Name, spelled, same_name, same_name-Decides}
-use Rattle.ot_plain.specs.Trees.{Symbol, OpSymbol, ConSymbol}
-use Rattle.ot_plain.specs.Lists.{IsMember}
+use Rattle.ot_logic.specs.Names.{Name, spelled, same_name, same_name-Decides}
+use Rattle.ot_logic.specs.Trees.{Symbol, OpSymbol, ConSymbol}
+use Rattle.ot_logic.specs.Lists.{IsMember}
 use Rattle.ot_forms.specs.Words.{is_letter, is_inner, is_part, is_sign, is_operator, same_text, dotted, base}
 use Rattle.ot_forms.specs.Words.{symbol_name, same_kind, is_hidden, IsNotation}
 use Rattle.ot_forms.specs.Reading.{NoForm, Reading, Got, Halted, next, quoted_at}

@@ -1,8 +1,8 @@
 -- The words of two symbols of one kind are different: each is read as the one.
 use Rattle.std.specs.Prelude.{◌≡◌, true, List, [], ◌++◌}
 use Rattle.std.proofs.Common.{refl, sym, ◌∙◌, ap}
-use Rattle.ot_plain.specs.Names.{Name, IsName}
-use Rattle.ot_plain.specs.Trees.{Symbol, ConSymbol, OpSymbol}
+use Rattle.ot_logic.specs.Names.{Name, IsName}
+use Rattle.ot_logic.specs.Trees.{Symbol, ConSymbol, OpSymbol}
 use Rattle.ot_forms.specs.Words.{IsNotation, symbol_name, same_kind, word, variable_word}
 use Rattle.ot_forms.specs.Reading.{Reading, Got, operator_at, constant_at, variable_at}
 use Rattle.ot_forms.proofs.OperatorWords.{operator-reads}

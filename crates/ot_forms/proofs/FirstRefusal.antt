@@ -4,11 +4,11 @@ use Rattle.std.specs.Prelude.{List, [], ◌∷◌, ◌++◌, length, codes, Opti
 use Rattle.std.specs.List.{AllByRecursion}
 use Rattle.std.proofs.Common.{refl, sym, ◌∙◌, ap, subst, inl, inr, append_assoc, length-append, arith, lit<}
 use Rattle.std.proofs.lemmas.Bool.Decides.{eqb_tells}
-use Rattle.ot_plain.specs.Answers.{◌>>=◌, some_or}
-use Rattle.ot_plain.specs.Names.{Name}
-use Rattle.ot_plain.specs.Naming.{names}
-use Rattle.ot_plain.specs.Trees.{Tm, Free, Con, Bound, App, Abs, Symbol}
-use Rattle.ot_plain.specs.Hol.{bool_ty}
+use Rattle.ot_logic.specs.Answers.{◌>>=◌, some_or}
+use Rattle.ot_logic.specs.Names.{Name}
+use Rattle.ot_logic.specs.Naming.{names}
+use Rattle.ot_logic.specs.Trees.{Tm, Free, Con, Bound, App, Abs, Symbol}
+use Rattle.ot_logic.specs.Hol.{bool_ty}
 use Rattle.ot_forms.specs.declared.fault.TextFault.{TextFault}
 use Rattle.ot_forms.specs.declared.fault.TextFault.TheVariants.{Unbound, UnknownOperator, BadTypes, TooDeep}
 use Rattle.ot_forms.specs.Forms.{Written, Writtens, Place, FreeAs, ConAs, Equal, Infix, Applied, Binding}
@@ -17,7 +17,7 @@ use Rattle.ot_forms.specs.Meaning.{Around, Refusal, place_of, constant_of, has_t
 use Rattle.ot_forms.specs.Meaning.{whole, relation_ty, equated, are_alike, meaning, meaning_applied}
 use Rattle.ot_forms.specs.Parts.{Part, CountsBefore, refused, whole_parts, fitting, meant}
 use Rattle.ot_forms.specs.Parts.{applied_meaning, end_of, parts, parts_applied, AreOrdered}
-use Rattle.ot_plain.proofs.Elements.{AllByRecursion-append}
+use Rattle.ot_logic.proofs.Elements.{AllByRecursion-append}
 
 -- the refusal is that of the first part
 abbrev pub Agrees : {A : Type 0} → Result A Refusal → List Part → Type 0

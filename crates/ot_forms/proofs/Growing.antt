@@ -2,10 +2,10 @@
 use Rattle.std.specs.Prelude.{◌≡◌, ◌≤◌, ◌<◌, ℕ, zero, suc, ◌-◌, ◌==◌, ◌||◌, not}
 use Rattle.std.specs.Prelude.{Bool, true, false, cond, List, [], ◌∷◌, length, codes}
 use Rattle.std.proofs.Common.{refl, ◌∙◌, ap, subst, length-append, arith}
-use Rattle.ot_plain.specs.Names.{Name}
-use Rattle.ot_plain.specs.Naming.{names}
-use Rattle.ot_plain.specs.Hol.{fun_ty}
-use Rattle.ot_plain.specs.Trees.{Ty, Tys, TyOp, NoTys, MoreTys, Symbol}
+use Rattle.ot_logic.specs.Names.{Name}
+use Rattle.ot_logic.specs.Naming.{names}
+use Rattle.ot_logic.specs.Hol.{fun_ty}
+use Rattle.ot_logic.specs.Trees.{Ty, Tys, TyOp, NoTys, MoreTys, Symbol}
 use Rattle.ot_text.specs.Texts.{is_function}
 use Rattle.ot_forms.specs.Reading.{NoForm, OneTooMany, Reading, Got, Halted, next, mapped, kept}
 use Rattle.ot_forms.specs.Reading.{literal_at, operator_at, range_at, further_at, arguments_at}

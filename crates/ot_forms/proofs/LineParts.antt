@@ -2,16 +2,16 @@
 use Rattle.std.specs.Prelude.{◌≡◌, ◌≤◌, ℕ, ◌+◌, true, List, [], ◌∷◌, ◌++◌, length, Result, Ok, Err}
 use Rattle.std.specs.List.{AllByRecursion}
 use Rattle.std.proofs.Common.{refl, subst, inl, arith, length-append}
-use Rattle.ot_plain.specs.Answers.{◌>>=◌}
-use Rattle.ot_plain.specs.Names.{Name}
-use Rattle.ot_plain.specs.Naming.{names}
-use Rattle.ot_plain.specs.Trees.{Tm, Sequent, Symbol}
-use Rattle.ot_plain.specs.Hol.{once_each}
+use Rattle.ot_logic.specs.Answers.{◌>>=◌}
+use Rattle.ot_logic.specs.Names.{Name}
+use Rattle.ot_logic.specs.Naming.{names}
+use Rattle.ot_logic.specs.Trees.{Tm, Sequent, Symbol}
+use Rattle.ot_logic.specs.Hol.{once_each}
 use Rattle.ot_forms.specs.Forms.{Written, IsWritten, term_text, further_hyps, hyps_text, WrittenSequent}
 use Rattle.ot_forms.specs.Meaning.{Refusal, meaning, meanings, line_meaning}
 use Rattle.ot_forms.specs.Parts.{Part, CountsBefore, parts, hyps_parts, line_parts, end_of, AreOrdered}
 use Rattle.ot_forms.proofs.FirstRefusal.{Agrees, agrees-then, agrees, all-to, ordered-append, IsIn, AreIn, parts-in}
-use Rattle.ot_plain.proofs.Elements.{AllByRecursion-append}
+use Rattle.ot_logic.proofs.Elements.{AllByRecursion-append}
 
 -- parts of a text, and parts of another behind it
 behind : (lo mid from hi : ℕ) (ps qs : List Part) → AreIn lo mid ps → AreIn from hi qs → lo ≤ from → mid ≤ from

@@ -4,13 +4,13 @@ use Rattle.std.specs.List.{list_all, list_any, filter}
 use Rattle.std.proofs.Common.{refl, sym, ◌∙◌, ap, subst, inl, inr, arith}
 use Rattle.std.proofs.lemmas.Bool.{and_parts}
 use Rattle.std.proofs.lemmas.Slice.Eq.{bytes_eq-Decides}
-use Rattle.ot_plain.specs.Names.{Name, IsName, same_name, same_name-Decides}
-use Rattle.ot_plain.specs.Lists.{IsMember}
-use Rattle.ot_plain.specs.Trees.{Symbol, ConSymbol, OpSymbol}
+use Rattle.ot_logic.specs.Names.{Name, IsName, same_name, same_name-Decides}
+use Rattle.ot_logic.specs.Lists.{IsMember}
+use Rattle.ot_logic.specs.Trees.{Symbol, ConSymbol, OpSymbol}
 use Rattle.ot_forms.specs.Words.{namespace, base, symbol_name, same_kind, same_symbol, is_short}
 use Rattle.ot_forms.specs.Words.{is_shown, is_alike, is_hidden_in, hidden_symbols, is_hidden}
 use Rattle.ot_forms.specs.Words.{IsNotation}
-use Rattle.ot_plain.proofs.Members.{member_from_any}
+use Rattle.ot_logic.proofs.Members.{member_from_any}
 
 -- what a test finds among those that are kept
 pub record IsAmong {X : Type 0} (test p : X → Bool) (xs : List X) : Type 0 where

@@ -1,8 +1,8 @@
 -- The words of type operators.
 use Rattle.std.specs.Prelude.{◌≡◌, ℕ, ◌==◌, ◌||◌, Bool, true, false, cond, List, [], ◌∷◌, codes}
 use Rattle.std.proofs.Common.{refl, sym, ◌∙◌, ap, inl, inr}
-use Rattle.ot_plain.specs.Names.{Name, IsName, spelled}
-use Rattle.ot_plain.specs.Trees.{Symbol, ConSymbol, OpSymbol}
+use Rattle.ot_logic.specs.Names.{Name, IsName, spelled}
+use Rattle.ot_logic.specs.Trees.{Symbol, ConSymbol, OpSymbol}
 use Rattle.ot_forms.specs.Words.{is_letter, is_part, dotted, base, symbol_name}
 use Rattle.ot_forms.specs.Words.{same_kind, is_hidden, word, IsNotation}
 use Rattle.ot_forms.specs.Reading.{NoForm, Got, Halted, next, quoted_at, bare_symbol_at, is_spelled, operator_at}

@@ -3,8 +3,8 @@ use Rattle.std.specs.Prelude.{◌≡◌, ◌≤◌, ℕ, zero, suc, ◌+◌, ◌
 use Rattle.std.specs.List.{list_all}
 use Rattle.std.proofs.Common.{refl, ◌∙◌, ap, append_assoc, length-append, arith}
 use Rattle.std.proofs.lemmas.Bool.{and_parts, and_from}
-use Rattle.ot_plain.specs.Names.{Name, IsName, same_name, same_name-Decides}
-use Rattle.ot_plain.specs.Trees.{Symbol}
+use Rattle.ot_logic.specs.Names.{Name, IsName, same_name, same_name-Decides}
+use Rattle.ot_logic.specs.Trees.{Symbol}
 use Rattle.ot_forms.specs.Words.{is_letter, is_inner, is_part, is_bare, dotted, base}
 use Rattle.ot_forms.specs.Words.{symbol_name, same_kind, same_symbol, is_hidden}
 

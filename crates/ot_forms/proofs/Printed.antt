@@ -7,12 +7,12 @@ use Rattle.std.proofs.Common.{refl, sym, ◌∙◌, ap, subst, arith}
 use Rattle.std.proofs.lemmas.Bool.{and_parts, leb-true, and_from}
 use Rattle.std.proofs.lemmas.Bool.Decides.{nat_tests}
 use Rattle.std.proofs.lemmas.Int.Digits.{all_below_base_digits_of}
-use Rattle.ot_plain.specs.Names.{Name}
-use Rattle.ot_plain.specs.Naming.{names}
-use Rattle.ot_plain.specs.Trees.{Ty, Tys, TyVar, TyOp, NoTys, MoreTys, Tm}
-use Rattle.ot_plain.specs.Trees.{Free, Con, Bound, App, Abs, Symbol, ConSymbol}
-use Rattle.ot_plain.specs.Hol.{fun_ty, same_ty, depth_ty, depth_all, depth_tm}
-use Rattle.ot_plain.specs.Hol.{depth_limit, has_shallow_types, is_shallow_type, type_in}
+use Rattle.ot_logic.specs.Names.{Name}
+use Rattle.ot_logic.specs.Naming.{names}
+use Rattle.ot_logic.specs.Trees.{Ty, Tys, TyVar, TyOp, NoTys, MoreTys, Tm}
+use Rattle.ot_logic.specs.Trees.{Free, Con, Bound, App, Abs, Symbol, ConSymbol}
+use Rattle.ot_logic.specs.Hol.{fun_ty, same_ty, depth_ty, depth_all, depth_tm}
+use Rattle.ot_logic.specs.Hol.{depth_limit, has_shallow_types, is_shallow_type, type_in}
 use Rattle.ot_forms.specs.Words.{is_inner, is_part, is_operator, is_hidden, base}
 use Rattle.ot_forms.specs.Forms.{HaveTermNames, most_open_type, most_open_types, Written}
 use Rattle.ot_forms.specs.Forms.{Writtens, Place, FreeAs, ConAs, Equal, Infix, Applied, Binding}

@@ -2,8 +2,8 @@
 use Rattle.std.specs.Prelude.{◌≡◌, ℕ, ◌||◌, Bool, true, false, cond, List, [], ◌∷◌, Some}
 use Rattle.std.proofs.Common.{refl, sym, ◌∙◌, ap}
 use Rattle.std.proofs.lemmas.Slice.Eq.{bytes_eq-Decides}
-use Rattle.ot_plain.specs.Names.{Name, same_name, same_name-Decides}
-use Rattle.ot_plain.specs.Trees.{Ty, Tm, Symbol, ConSymbol, OpSymbol}
+use Rattle.ot_logic.specs.Names.{Name, same_name, same_name-Decides}
+use Rattle.ot_logic.specs.Trees.{Ty, Tm, Symbol, ConSymbol, OpSymbol}
 use Rattle.ot_forms.specs.Words.{same_text, base, is_hidden}
 use Rattle.ot_forms.specs.Forms.{HaveTermNames}
 use Rattle.ot_forms.specs.Meaning.{constant_of}

@@ -8,12 +8,12 @@ use Rattle.std.specs.Bool.{Decides}
 use Rattle.std.proofs.lemmas.Slice.Eq.{bytes_eq-Decides}
 use Rattle.std.proofs.lemmas.Option.{slice_get_within}
 use Rattle.std.proofs.lemmas.Bool.{and_parts, leb-true, le-leb}
-use Rattle.ot_plain.specs.Answers.{◌>>=◌, some_or}
-use Rattle.ot_plain.specs.Names.{Name}
-use Rattle.ot_plain.specs.Naming.{names}
-use Rattle.ot_plain.specs.Trees.{Ty, Tm, Free, Con, Bound, App, Abs, Symbol, ConSymbol}
-use Rattle.ot_plain.specs.Hol.{fun_ty, bool_ty, type_in, same_ty, equation, as_equation}
-use Rattle.ot_plain.specs.Hol.{depth_tm, depth_limit, has_shallow_types, is_shallow_type}
+use Rattle.ot_logic.specs.Answers.{◌>>=◌, some_or}
+use Rattle.ot_logic.specs.Names.{Name}
+use Rattle.ot_logic.specs.Naming.{names}
+use Rattle.ot_logic.specs.Trees.{Ty, Tm, Free, Con, Bound, App, Abs, Symbol, ConSymbol}
+use Rattle.ot_logic.specs.Hol.{fun_ty, bool_ty, type_in, same_ty, equation, as_equation}
+use Rattle.ot_logic.specs.Hol.{depth_tm, depth_limit, has_shallow_types, is_shallow_type}
 use Rattle.ot_laws.proofs.Tests.{tells_names, same_ty-is}
 use Rattle.ot_laws.proofs.Typing.{abs-some, applied-some}
 use Rattle.ot_laws.proofs.Equations.{as_equation-some}

@@ -1,10 +1,10 @@
 -- The worked rows, computed by the definitions.
 use Rattle.std.specs.Prelude.{◌≡◌, List, [], ◌∷◌, codes, refl, Ok, Err, false}
-use Rattle.ot_plain.specs.Names.{Name}
-use Rattle.ot_plain.specs.Naming.{names}
-use Rattle.ot_plain.specs.Trees.{Ty, TyVar, TyOp, NoTys, MoreTys, Tm, Free, Con, Bound}
-use Rattle.ot_plain.specs.Trees.{App, Abs, Sequent, Symbol, ConSymbol, OpSymbol}
-use Rattle.ot_plain.specs.Hol.{fun_ty, bool_ty, equation}
+use Rattle.ot_logic.specs.Names.{Name}
+use Rattle.ot_logic.specs.Naming.{names}
+use Rattle.ot_logic.specs.Trees.{Ty, TyVar, TyOp, NoTys, MoreTys, Tm, Free, Con, Bound}
+use Rattle.ot_logic.specs.Trees.{App, Abs, Sequent, Symbol, ConSymbol, OpSymbol}
+use Rattle.ot_logic.specs.Hol.{fun_ty, bool_ty, equation}
 use Rattle.ot_forms.specs.declared.fault.TextFault.TheVariants.{Unbound, UnknownOperator, BadTypes}
 use Rattle.ot_forms.specs.Words.{hidden_symbols, word}
 use Rattle.ot_forms.specs.Forms.{Place, FreeAs, Infix, Binding, type_text}

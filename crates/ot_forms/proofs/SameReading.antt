@@ -2,11 +2,11 @@
 use Rattle.std.specs.Prelude.{◌≡◌, ◌+◌, ℕ, suc, Bool, true, false, List, [], ◌∷◌}
 use Rattle.std.specs.Prelude.{◌++◌, map, length, take, Option, Some, None, Result, Ok}
 use Rattle.std.proofs.Common.{refl, sym, ◌∙◌, ap, inl, inr}
-use Rattle.ot_plain.specs.Answers.{◌>>=◌, some_or}
-use Rattle.ot_plain.specs.Names.{Name}
-use Rattle.ot_plain.specs.Naming.{names}
-use Rattle.ot_plain.specs.Hol.{once_each}
-use Rattle.ot_plain.specs.Trees.{Tm, Con, App, Abs, Sequent, Symbol, ConSymbol}
+use Rattle.ot_logic.specs.Answers.{◌>>=◌, some_or}
+use Rattle.ot_logic.specs.Names.{Name}
+use Rattle.ot_logic.specs.Naming.{names}
+use Rattle.ot_logic.specs.Hol.{once_each}
+use Rattle.ot_logic.specs.Trees.{Tm, Con, App, Abs, Sequent, Symbol, ConSymbol}
 use Rattle.ot_text.specs.Texts as printed
 use Rattle.ot_forms.specs.declared.fault.TextFault.{TextFault}
 use Rattle.ot_forms.specs.declared.fault.TextFault.TheVariants.{Syntax, TooManyOpen, Unbound}

@@ -2,12 +2,12 @@
 use Rattle.std.specs.Prelude.{◌≡◌, ◌++◌, ℕ, suc, not, ◌||◌, ◌&&◌, Bool, true, false, cond, List, [], ◌∷◌, map, codes}
 use Rattle.std.specs.List.{list_all, list_any, filter}
 use Rattle.std.proofs.Common.{refl, sym, ◌∙◌, ap, inl, inr}
-use Rattle.ot_plain.specs.Names.{Name, spelled}
-use Rattle.ot_plain.specs.Naming.{names}
-use Rattle.ot_plain.specs.Hol.{same_ty}
-use Rattle.ot_plain.specs.Lists.{IsMember, IsSameSet}
-use Rattle.ot_plain.specs.Trees.{Ty, Tys, TyVar, TyOp, NoTys, MoreTys, Tm, Free, Con}
-use Rattle.ot_plain.specs.Trees.{Bound, App, Abs, Sequent, Symbol, ConSymbol, OpSymbol}
+use Rattle.ot_logic.specs.Names.{Name, spelled}
+use Rattle.ot_logic.specs.Naming.{names}
+use Rattle.ot_logic.specs.Hol.{same_ty}
+use Rattle.ot_logic.specs.Lists.{IsMember, IsSameSet}
+use Rattle.ot_logic.specs.Trees.{Ty, Tys, TyVar, TyOp, NoTys, MoreTys, Tm, Free, Con}
+use Rattle.ot_logic.specs.Trees.{Bound, App, Abs, Sequent, Symbol, ConSymbol, OpSymbol}
 use Rattle.ot_text.specs.Texts.{is_function, is_equation, ascending, hyps_text}
 use Rattle.ot_forms.specs.Words.{is_bare, dotted, is_operator, variable_word, symbol_name, same_kind}
 use Rattle.ot_forms.specs.Words.{same_text, same_symbol, base, is_short, is_shown, is_alike}
@@ -17,7 +17,7 @@ use Rattle.ot_forms.specs.Forms.{Binding, NoMore, More, type_text, types_text, t
 use Rattle.ot_forms.specs.Meaning.{relation_ty}
 use Rattle.ot_forms.specs.Printing.{binder_name, is_relation, operator_of, with_argument, written}
 use Rattle.ot_forms.specs.Printing.{written_argument, applied_to, readable_term, readable_text}
-use Rattle.ot_plain.proofs.Members.{member_from_any}
+use Rattle.ot_logic.proofs.Members.{member_from_any}
 
 -- ---- tests over lists of one set
 

@@ -3,16 +3,16 @@ use Rattle.std.specs.Prelude.{◌≡◌, ◌≤◌, ℕ, ◌+◌, true, false, L
 use Rattle.std.specs.List.{AllByRecursion}
 use Rattle.std.proofs.Common.{refl, sym, ◌∙◌, ap, subst, inl, inr, arith}
 use Rattle.std.proofs.lemmas.Bool.{leb-true}
-use Rattle.ot_plain.specs.Answers.{◌>>=◌}
-use Rattle.ot_plain.specs.Names.{Name}
-use Rattle.ot_plain.specs.Naming.{names}
-use Rattle.ot_plain.specs.Lists.{IsMember, IsPart, IsSameSet}
-use Rattle.ot_plain.specs.Trees.{Tm, Sequent, Symbol}
-use Rattle.ot_plain.specs.Hol.{bool_ty, depth_tm, depth_limit}
+use Rattle.ot_logic.specs.Answers.{◌>>=◌}
+use Rattle.ot_logic.specs.Names.{Name}
+use Rattle.ot_logic.specs.Naming.{names}
+use Rattle.ot_logic.specs.Lists.{IsMember, IsPart, IsSameSet}
+use Rattle.ot_logic.specs.Trees.{Tm, Sequent, Symbol}
+use Rattle.ot_logic.specs.Hol.{bool_ty, depth_tm, depth_limit}
 use Rattle.ot_forms.specs.Forms.{IsWritten, most_open, term_text, further_hyps, hyps_text}
 use Rattle.ot_forms.specs.Forms.{HaveTermNames}
 use Rattle.ot_forms.specs.Meaning.{Refusal, meaning, meanings}
-use Rattle.ot_plain.specs.Hol.{once_each}
+use Rattle.ot_logic.specs.Hol.{once_each}
 use Rattle.ot_laws.proofs.Tests.{tells_names}
 use Rattle.ot_laws.proofs.Hypotheses.{same_set-once_each}
 use Rattle.ot_forms.specs.Refusals.{open_limit, ReadsAs}

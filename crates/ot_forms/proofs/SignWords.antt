@@ -3,8 +3,8 @@ use Rattle.std.specs.Prelude.{◌≡◌, ℕ, ◌==◌, not, Bool, true, false, 
 use Rattle.std.specs.List.{list_all}
 use Rattle.std.proofs.Common.{refl, sym, ◌∙◌, ap, subst, inl, inr, eq-eqb}
 use Rattle.std.proofs.lemmas.Bool.{eqb-true, and_parts}
-use Rattle.ot_plain.specs.Names.{Name}
-use Rattle.ot_plain.specs.Lists.{IsMember}
+use Rattle.ot_logic.specs.Names.{Name}
+use Rattle.ot_logic.specs.Lists.{IsMember}
 use Rattle.ot_forms.specs.Words.{is_sign}
 use Rattle.ot_forms.specs.Reading.{NoForm, Reading, Got, Halted, mapped, Candidate}
 use Rattle.ot_forms.specs.Reading.{narrowed, ended, ended_at, sign_word_at}

@@ -3,7 +3,7 @@ use Rattle.std.specs.Prelude.{◌≡◌, ℕ, ◌==◌, ◌||◌, ◌&&◌, not,
 use Rattle.std.specs.List.{list_all, flat_map}
 use Rattle.std.proofs.Common.{refl, sym, ◌∙◌, ap, subst, append_assoc, inl, inr, lit<, arith}
 use Rattle.std.proofs.lemmas.Bool.{eqb-true, and_parts}
-use Rattle.ot_plain.specs.Names.{Name, IsName, Plain, Escaped, item_of, item_text, joined, spelled}
+use Rattle.ot_logic.specs.Names.{Name, IsName, Plain, Escaped, item_of, item_text, joined, spelled}
 use Rattle.ot_forms.specs.Words.{is_letter, is_inner, is_part, is_bare, dotted}
 use Rattle.ot_forms.specs.Reading.{NoForm, Reading, Got, Halted, next, mapped, kept, before, literal_at}
 use Rattle.ot_forms.specs.Reading.{bare_at, is_special, spelled_at, escaped_at, quoted_at, variable_at}

@@ -5,8 +5,8 @@ use Rattle.std.specs.List.{list_all}
 use Rattle.std.specs.Option.{unwrap_or}
 use Rattle.std.proofs.Common.{refl, sym, ◌∙◌, ap, subst, inl, inr, lit<, arith}
 use Rattle.std.proofs.lemmas.Bool.{and_parts, not-true}
-use Rattle.ot_plain.specs.Names.{Name, IsName, spelled}
-use Rattle.ot_plain.specs.Trees.{Symbol}
+use Rattle.ot_logic.specs.Names.{Name, IsName, spelled}
+use Rattle.ot_logic.specs.Trees.{Symbol}
 use Rattle.ot_forms.specs.Words.{is_letter, is_inner, is_part, is_bare, is_short, dotted, base}
 use Rattle.ot_forms.specs.Words.{symbol_name, same_kind, is_hidden, is_taken, IsNotation}
 use Rattle.ot_forms.specs.Reading.{Reading, next, kept, literal_at, bare_at}

@@ -2,8 +2,8 @@
 use Rattle.std.specs.Prelude.{◌≡◌, ◌≤◌, ℕ, zero, suc, ◌+◌, ◌-◌, ◌==◌, ◌||◌, not, Bool, true}
 use Rattle.std.specs.Prelude.{false, cond, List, [], ◌∷◌, length, codes, Option, Some, None}
 use Rattle.std.proofs.Common.{refl, sym, subst, arith}
-use Rattle.ot_plain.specs.Names.{Name}
-use Rattle.ot_plain.specs.Trees.{Ty, Symbol, ConSymbol}
+use Rattle.ot_logic.specs.Names.{Name}
+use Rattle.ot_logic.specs.Trees.{Ty, Symbol, ConSymbol}
 use Rattle.ot_forms.specs.Words.{is_letter, is_inner, is_sign, is_hidden}
 use Rattle.ot_forms.specs.Forms.{Written, Place, FreeAs, ConAs, Applied, Binding, NoMore, More}
 use Rattle.ot_forms.specs.Reading.{NoForm, OneTooMany, Reading, Got, Halted, next, mapped, kept, literal_at, bare_at}

@@ -5,8 +5,8 @@ use Rattle.std.specs.List.{list_all}
 use Rattle.std.proofs.Common.{refl, sym, ◌∙◌, ap, subst, append_assoc, inl, inr, arith, lit<}
 use Rattle.std.proofs.lemmas.Slice.Eq.{bytes_eq-Decides}
 use Rattle.std.proofs.lemmas.Bool.{and_parts, and_from}
-use Rattle.ot_plain.specs.Names.{Name, IsName, spelled}
-use Rattle.ot_plain.specs.Trees.{Ty, Symbol, ConSymbol}
+use Rattle.ot_logic.specs.Names.{Name, IsName, spelled}
+use Rattle.ot_logic.specs.Trees.{Ty, Symbol, ConSymbol}
 use Rattle.ot_forms.specs.Words.{is_inner, is_letter, is_part, is_sign, is_operator, is_bare, dotted, same_text}
 use Rattle.ot_forms.specs.Words.{variable_word, word}
 use Rattle.ot_forms.specs.Forms.{type_text, HasNames, most_open_type, Written, Writtens, Place, FreeAs, ConAs, Equal}

@@ -4,8 +4,8 @@ use Rattle.std.specs.Prelude.{[], ◌∷◌, ◌++◌, length, codes}
 use Rattle.std.specs.List.{list_all}
 use Rattle.std.proofs.Common.{refl, sym, ◌∙◌, ap, subst, append_assoc, length-append, inl, inr, arith, lit<}
 use Rattle.std.proofs.lemmas.Bool.{eqb-true, and_parts}
-use Rattle.ot_plain.specs.Names.{Name, IsName, spelled}
-use Rattle.ot_plain.specs.Trees.{Ty, TyVar, Symbol, ConSymbol}
+use Rattle.ot_logic.specs.Names.{Name, IsName, spelled}
+use Rattle.ot_logic.specs.Trees.{Ty, TyVar, Symbol, ConSymbol}
 use Rattle.ot_forms.specs.Words.{is_inner, is_letter, is_sign, is_bare, dotted, word}
 use Rattle.ot_forms.specs.Forms.{Written, Writtens, Place, FreeAs, ConAs, Equal, Infix, Applied, Binding, NoMore}
 use Rattle.ot_forms.specs.Forms.{More, term_text, terms_text, IsWritten, AreWritten, most_open, most_open_all}

@@ -2,8 +2,8 @@
 use Rattle.std.specs.Prelude.{◌≡◌, ◌≤◌, ◌<◌, ℕ, zero, suc, ◌+◌, ◌==◌, not, Bool}
 use Rattle.std.specs.Prelude.{true, false, cond, List, [], ◌∷◌, ◌++◌, length, codes}
 use Rattle.std.proofs.Common.{refl, sym, ◌∙◌, ap, subst, append_assoc, append-nil, zero-add, arith}
-use Rattle.ot_plain.specs.Names.{Name}
-use Rattle.ot_plain.specs.Trees.{Ty, TyVar, TyOp, NoTys, Symbol, OpSymbol}
+use Rattle.ot_logic.specs.Names.{Name}
+use Rattle.ot_logic.specs.Trees.{Ty, TyVar, TyOp, NoTys, Symbol, OpSymbol}
 use Rattle.ot_forms.specs.Words.{is_letter, is_inner, is_bare, is_hidden}
 use Rattle.ot_forms.specs.Reading.{Reason, NoForm, OneTooMany, Reading, Got, Halted, mapped, kept, before}
 use Rattle.ot_forms.specs.Reading.{is_special, literal_at, bare_at, bare_on, spelled_at, escaped_at, quoted_at}

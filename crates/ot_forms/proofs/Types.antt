@@ -4,10 +4,10 @@ use Rattle.std.specs.Prelude.{[], ◌∷◌, ◌++◌, length, codes, Some, None
 use Rattle.std.proofs.Common.{refl, sym, ◌∙◌, ap, subst, append_assoc, append-nil, length-append, inl, inr, eq-eqb}
 use Rattle.std.proofs.Common.{arith, lit<}
 use Rattle.std.proofs.lemmas.Bool.{eqb-true}
-use Rattle.ot_plain.specs.Names.{Name, IsName, same_name, same_name-Decides}
-use Rattle.ot_plain.specs.Naming.{names}
-use Rattle.ot_plain.specs.Hol.{fun_ty}
-use Rattle.ot_plain.specs.Trees.{Ty, Tys, TyVar, TyOp, NoTys, MoreTys, Symbol, OpSymbol}
+use Rattle.ot_logic.specs.Names.{Name, IsName, same_name, same_name-Decides}
+use Rattle.ot_logic.specs.Naming.{names}
+use Rattle.ot_logic.specs.Hol.{fun_ty}
+use Rattle.ot_logic.specs.Trees.{Ty, Tys, TyVar, TyOp, NoTys, MoreTys, Symbol, OpSymbol}
 use Rattle.ot_forms.specs.Words.{is_inner, is_letter, variable_word, word}
 use Rattle.ot_text.specs.Texts.{is_function}
 use Rattle.ot_forms.specs.Forms.{type_text, types_text, HasNames, HaveNames, most_open_type, most_open_types}

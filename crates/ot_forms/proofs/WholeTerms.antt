@@ -4,8 +4,8 @@ use Rattle.std.specs.Prelude.{true, false, cond, List, [], ◌∷◌, ◌++◌, 
 use Rattle.std.specs.List.{list_all}
 use Rattle.std.proofs.Common.{refl, sym, ◌∙◌, ap, subst, arith}
 use Rattle.std.proofs.lemmas.Bool.{eqb-true, and_parts}
-use Rattle.ot_plain.specs.Names.{Name}
-use Rattle.ot_plain.specs.Trees.{Symbol}
+use Rattle.ot_logic.specs.Names.{Name}
+use Rattle.ot_logic.specs.Trees.{Symbol}
 use Rattle.ot_forms.specs.Words.{is_inner, is_letter, is_part}
 use Rattle.ot_forms.specs.Forms.{Written, Place, FreeAs, ConAs, Equal, Infix, Applied, Binding, term_text}
 use Rattle.ot_forms.specs.Reading.{NoForm, OneTooMany, Reading, Got, Halted, mapped, part_at}

@@ -1,10 +1,10 @@
 -- The forms of readable text: types, terms as they are written, and lines.
 use Rattle.std.specs.Prelude.{◌≤◌, ℕ, suc, cond, IsTrue, List, [], ◌++◌, map, max, codes}
 use Rattle.std.specs.List.{AllByRecursion}
-use Rattle.ot_plain.specs.Names.{Name, IsName}
-use Rattle.ot_plain.specs.Naming.{names}
-use Rattle.ot_plain.specs.Trees.{Ty, Tys, TyVar, TyOp, NoTys, MoreTys, Tm, Free}
-use Rattle.ot_plain.specs.Trees.{Con, Bound, App, Abs, Symbol, ConSymbol, OpSymbol}
+use Rattle.ot_logic.specs.Names.{Name, IsName}
+use Rattle.ot_logic.specs.Naming.{names}
+use Rattle.ot_logic.specs.Trees.{Ty, Tys, TyVar, TyOp, NoTys, MoreTys, Tm, Free}
+use Rattle.ot_logic.specs.Trees.{Con, Bound, App, Abs, Symbol, ConSymbol, OpSymbol}
 use Rattle.ot_text.specs.Texts as printed
 use Rattle.ot_text.specs.Texts.{is_function}
 use Rattle.ot_forms.specs.Words.{is_part, is_operator, variable_word, word}

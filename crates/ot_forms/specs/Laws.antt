@@ -1,11 +1,11 @@
 -- Laws of readable text.
 use Rattle.std.specs.Prelude.{◌≡◌, ℕ, Bool, List, [], ◌∷◌, true, Result, Ok, Err}
 use Rattle.std.specs.List.{AllByRecursion}
-use Rattle.ot_plain.specs.Names.{Name, IsName}
-use Rattle.ot_plain.specs.Naming.{names}
-use Rattle.ot_plain.specs.Lists.{IsMember, IsSameSet}
-use Rattle.ot_plain.specs.Trees.{Tm, Sequent, Symbol}
-use Rattle.ot_plain.specs.Hol.{bool_ty, HasType, is_shallow}
+use Rattle.ot_logic.specs.Names.{Name, IsName}
+use Rattle.ot_logic.specs.Naming.{names}
+use Rattle.ot_logic.specs.Lists.{IsMember, IsSameSet}
+use Rattle.ot_logic.specs.Trees.{Tm, Sequent, Symbol}
+use Rattle.ot_logic.specs.Hol.{bool_ty, HasType, is_shallow}
 use Rattle.ot_forms.specs.declared.fault.TextFault.{TextFault}
 use Rattle.ot_forms.specs.Words.{IsNotation, hidden_symbols, symbol_name, same_kind, word, variable_word}
 use Rattle.ot_forms.specs.Forms.{HaveTermNames, Written, IsWritten, WrittenSequent}

@@ -1,9 +1,9 @@
 -- The written form that the printer chooses for each term, and the readable text of a sequent.
 use Rattle.std.specs.Prelude.{ℕ, suc, ◌-◌, Bool, false, cond, ◌&&◌, List, [], ◌∷◌, ◌++◌, map}
-use Rattle.ot_plain.specs.Names.{Name}
-use Rattle.ot_plain.specs.Naming.{names}
-use Rattle.ot_plain.specs.Trees.{Tm, Free, Con, Bound, App, Abs, Sequent, Symbol, ConSymbol}
-use Rattle.ot_plain.specs.Hol.{same_ty}
+use Rattle.ot_logic.specs.Names.{Name}
+use Rattle.ot_logic.specs.Naming.{names}
+use Rattle.ot_logic.specs.Trees.{Tm, Free, Con, Bound, App, Abs, Sequent, Symbol, ConSymbol}
+use Rattle.ot_logic.specs.Hol.{same_ty}
 use Rattle.ot_text.specs.Texts.{number_text, is_equation, ascending, hyps_text}
 use Rattle.ot_forms.specs.Words.{is_operator, is_hidden, base}
 use Rattle.ot_forms.specs.Forms.{Written, Writtens, Place, FreeAs, ConAs, Equal}

@@ -2,10 +2,10 @@
 use Rattle.std.specs.Prelude.{ℕ, zero, suc, ◌-◌, Bool, true, false, cond, ◌&&◌, ◌||◌, not}
 use Rattle.std.specs.Prelude.{◌==◌, List, [], ◌∷◌, length, codes, Option, Some, None}
 use Rattle.std.specs.Option.{unwrap_or}
-use Rattle.ot_plain.specs.Names.{Name}
-use Rattle.ot_plain.specs.Naming.{names}
-use Rattle.ot_plain.specs.Hol.{fun_ty}
-use Rattle.ot_plain.specs.Trees.{Ty, Tys, TyVar, TyOp, NoTys, MoreTys, Symbol, ConSymbol, OpSymbol}
+use Rattle.ot_logic.specs.Names.{Name}
+use Rattle.ot_logic.specs.Naming.{names}
+use Rattle.ot_logic.specs.Hol.{fun_ty}
+use Rattle.ot_logic.specs.Trees.{Ty, Tys, TyVar, TyOp, NoTys, MoreTys, Symbol, ConSymbol, OpSymbol}
 use Rattle.ot_text.specs.Texts.{is_function}
 use Rattle.ot_forms.specs.Words.{is_letter, is_inner, is_sign, is_operator, same_kind, is_bare}
 use Rattle.ot_forms.specs.Words.{is_hidden, is_taken, dotted, same_text, base, symbol_name}

@@ -4,8 +4,8 @@ use Rattle.std.specs.Prelude.{◌&&◌, ◌||◌, ◌==◌, nat_le, List, [], �
 use Rattle.std.specs.List.{list_all, list_any, filter}
 use Rattle.std.specs.Cmp.Lexicographic.{pointwise}
 use Rattle.std.specs.Prelude.{nat_eq}
-use Rattle.ot_plain.specs.Names.{Name, spelled, same_name}
-use Rattle.ot_plain.specs.Trees.{Symbol, ConSymbol, OpSymbol}
+use Rattle.ot_logic.specs.Names.{Name, spelled, same_name}
+use Rattle.ot_logic.specs.Trees.{Symbol, ConSymbol, OpSymbol}
 
 -- a byte of A to Z or a to z
 abbrev pub is_letter : ℕ → Bool

@@ -7,7 +7,7 @@ use Rattle.std.proofs.Common.{◌++◌, map, Some, None, is_some, refl, sym, ap,
 use Rattle.std.proofs.lemmas.Bool.Decides.{Decides-eqb, Decides-like, same_from_decides}
 use Rattle.std.proofs.lemmas.List.{map-append, append_assoc}
 use Rattle.std.proofs.lemmas.Map.Keys.{IsDistinct-head, IsDistinct-tail}
-use Rattle.ot_plain.specs.Naming.{numbers}
+use Rattle.ot_logic.specs.Naming.{numbers}
 use Rattle.ot_interp.specs.Interpretation.{is_held}
 
 -- the test of numbers, turned round

@@ -6,7 +6,7 @@ use Rattle.std.specs.Map.{lookup}
 use Rattle.std.proofs.Common.{◌≡◌, Bool, true, false, cond, List, [], ◌∷◌, ◌++◌, map}
 use Rattle.std.proofs.Common.{Option, Some, is_some, unwrap_or, refl, sym, ap, ◌∙◌}
 use Rattle.std.proofs.lemmas.Map.Entries.{lookup-filter-keys}
-use Rattle.ot_plain.specs.Trees.{Alphabet}
+use Rattle.ot_logic.specs.Trees.{Alphabet}
 use Rattle.ot_interp.specs.Interpretation.{is_held, renamed, InnerThenOuter}
 
 module _ {N : Type 0} (alphabet : Alphabet N) (tells : (x y : N) → Decides (alphabet.same x y) (x ≡ y)) where

@@ -9,8 +9,8 @@ use Rattle.std.proofs.Common.{map, Option, Some, None, is_some, unwrap_or, refl,
 use Rattle.std.proofs.lemmas.Bool.Decides.{Decides-eqb, Decides-like, same_from_decides}
 use Rattle.std.proofs.lemmas.List.{map-append}
 use Rattle.std.proofs.lemmas.List.Elements.{All-nil, All-head, All-tail, All-cons, All-append, All-weaker}
-use Rattle.ot_plain.specs.Names.{Name, same_name, same_name-Decides}
-use Rattle.ot_plain.specs.Naming.{names, numbers}
+use Rattle.ot_logic.specs.Names.{Name, same_name, same_name-Decides}
+use Rattle.ot_logic.specs.Naming.{names, numbers}
 use Rattle.ot_interp.specs.Interpretation.{Interpretation, is_held, renamed, after_pairs, after}
 use Rattle.ot_interp.specs.Interpretation.{map_pairs, map_interpretation, AreWithin, IsWithin}
 

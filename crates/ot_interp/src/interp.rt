@@ -1,10 +1,10 @@
 ghost use Rattle.std.specs.Prelude.{◌≡◌, ◌<◌, ℕ, false, [], ◌∷◌, ◌++◌, IfOk, OnOk, OnErr};
-ghost use Rattle.ot_plain.specs.Naming.{numbers};
+ghost use Rattle.ot_logic.specs.Naming.{numbers};
 ghost use Rattle.ot_interp.specs.Interpretation.{identity, is_held, renamed, after, IsWithin};
 
 use crate::pairs;
 use indexmap::IndexMap;
-use ot_plain::{Memory, NameId};
+use ot_logic::{Memory, NameId};
 use std::alloc::Global;
 use std::marker::Model;
 

@@ -1,10 +1,10 @@
 //! Finite maps from names to names.
 ghost use Rattle.std.specs.Prelude.{◌≡◌, false, [], ◌∷◌, ◌++◌, map, IfOk, OnOk, OnErr};
-ghost use Rattle.ot_plain.specs.Naming.{numbers};
+ghost use Rattle.ot_logic.specs.Naming.{numbers};
 ghost use Rattle.ot_interp.specs.Interpretation.{is_held, renamed, after_pairs};
 
 use indexmap::IndexMap;
-use ot_plain::{Memory, NameId};
+use ot_logic::{Memory, NameId};
 use std::alloc::Global;
 
 /// What a name becomes.

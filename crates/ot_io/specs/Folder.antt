@@ -4,7 +4,7 @@ use Rattle.std.specs.Option.{option_map}
 use Rattle.std.specs.List.{list_any}
 use Rattle.std.specs.Str.{bytes_eq}
 use Rattle.std.specs.Map.{lookup}
-use Rattle.ot_io.specs.Causes.{Rose}
+use Rattle.ot_io.specs.Causes.{CountRose}
 use Rattle.ot_io.specs.declared.files.OpenFault.{OpenFault}
 use Rattle.ot_io.specs.declared.files.OpenFault.TheVariants.{Missing, Failed}
 
@@ -36,8 +36,8 @@ GivesFile folder path left =
 pub record HasOpenCause (result : Result (Unit {0}) OpenFault) (faults faults' misses misses' : ℕ) : Type 0 where
   pub later_faults : faults ≤ faults'
   pub later_misses : misses ≤ misses'
-  pub missing : IsErrOf result Missing → Rose misses misses'
-  pub failed : IsErrOf result Failed → Rose faults faults'
+  pub missing : IsErrOf result Missing → CountRose misses misses'
+  pub failed : IsErrOf result Failed → CountRose faults faults'
 
 -- what the open file has left, and no byte without one
 abbrev pub left_of : {F : Type 0} → (F → Option (List ℕ)) → Option F → Option (List ℕ)

@@ -1,5 +1,5 @@
 ghost use Rattle.std.specs.Prelude.{◌≡◌, ◌≤◌, ◌+◌, length, take, IfOk, IfErr, IfSome};
-ghost use Rattle.ot_io.specs.Causes.{Rose};
+ghost use Rattle.ot_io.specs.Causes.{CountRose};
 
 use crate::source::{Failed, Source};
 use std::alloc::Global;
@@ -26,7 +26,7 @@ pub fn read_front<S: Source>(
     ensures few { IfSome (S.left source.old) (λ left. IfSome (S.left source.new)
         (λ rest. length left ≤ length rest + (max_bytes + 1))) }
     ensures cause { IfErr result (λ e. e ≡ ReadFault.Failed
-        → Rose (S.faults source.old) (S.faults source.new)) }
+        → CountRose (S.faults source.old) (S.faults source.new)) }
     ensures later { S.faults source.old ≤ S.faults source.new }
     ensures folder { S.folder source.new ≡ S.folder source.old }
     ensures misses { S.misses source.new ≡ S.misses source.old }

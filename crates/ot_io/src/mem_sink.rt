@@ -8,7 +8,7 @@ ghost use Rattle.ot_io.specs.MemoryStates.{after_failed_call, FindsNoRoom, writt
 use crate::calls::Calls;
 use crate::sink::Sink;
 use crate::source::Failed;
-use ot_plain::Memory;
+use ot_logic::Memory;
 use std::alloc::Global;
 use std::marker::Model;
 

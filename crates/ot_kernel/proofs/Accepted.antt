@@ -3,13 +3,13 @@ use Rattle.std.specs.Prelude.{◌≡◌, ℕ, ◌<◌, ◌≤◌, List as Items,
 use Rattle.std.specs.List.{All}
 use Rattle.std.proofs.Common.{refl, sym, ap, ◌∙◌, subst, arith}
 use Rattle.std.proofs.lemmas.List.Elements.{All-head, All-tail, All-weaker}
-use Rattle.ot_plain.specs.Names.{Name}
-use Rattle.ot_plain.specs.Trees.{TyVar, Bound, Symbol, ConSymbol, OpSymbol, Definition, ConDef, ListDef, TyDef}
-use Rattle.ot_plain.specs.Hol.{theorems}
-use Rattle.ot_plain.specs.Naming.{names, name_of, IsNameTable}
-use Rattle.ot_plain.specs.Renamed.{map_symbol}
-use Rattle.ot_plain.specs.Table.{Extends}
-use Rattle.ot_plain.proofs.TableLemmas.{get_or-Extends}
+use Rattle.ot_logic.specs.Names.{Name}
+use Rattle.ot_logic.specs.Trees.{TyVar, Bound, Symbol, ConSymbol, OpSymbol, Definition, ConDef, ListDef, TyDef}
+use Rattle.ot_logic.specs.Hol.{theorems}
+use Rattle.ot_logic.specs.Naming.{names, name_of, IsNameTable}
+use Rattle.ot_logic.specs.Renamed.{map_symbol}
+use Rattle.ot_logic.specs.Table.{Extends}
+use Rattle.ot_logic.proofs.TableLemmas.{get_or-Extends}
 use Rattle.ot_laws.specs.Next.{AreSymbolsOf}
 use Rattle.ot_define.specs.Signature.{Symbols}
 use Rattle.ot_term.specs.Term.{TermTable}

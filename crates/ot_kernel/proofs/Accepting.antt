@@ -6,14 +6,14 @@ use Rattle.std.proofs.Common.{◌+◌, refl, sym, ap, ◌∙◌, subst, arith, l
 use Rattle.std.proofs.lemmas.Option.{slice_get-get_or, slice_get_within, get_or_from_slice_get}
 use Rattle.std.proofs.lemmas.List.{get_or_append_left, map-append, length-map}
 use Rattle.std.proofs.lemmas.List.Elements.{All-head, All-tail, All-push, All-append}
-use Rattle.ot_plain.specs.Lists.{IsMember, IsSameSet}
-use Rattle.ot_plain.specs.Names.{Name}
-use Rattle.ot_plain.specs.Table.{Extends}
-use Rattle.ot_plain.specs.Trees.{Bound, Sequent, Symbol, ConSymbol, OpSymbol, Definition, ConDef, ListDef, TyDef}
-use Rattle.ot_plain.specs.Hol.{IsSequent, IsFine, defined, used, theorems}
-use Rattle.ot_plain.specs.Naming.{names, numbers, name_of, IsNameTable}
-use Rattle.ot_plain.specs.Renamed.{map_named, map_symbol}
-use Rattle.ot_plain.proofs.TableLemmas.{Extends-refl, Extends-append}
+use Rattle.ot_logic.specs.Lists.{IsMember, IsSameSet}
+use Rattle.ot_logic.specs.Names.{Name}
+use Rattle.ot_logic.specs.Table.{Extends}
+use Rattle.ot_logic.specs.Trees.{Bound, Sequent, Symbol, ConSymbol, OpSymbol, Definition, ConDef, ListDef, TyDef}
+use Rattle.ot_logic.specs.Hol.{IsSequent, IsFine, defined, used, theorems}
+use Rattle.ot_logic.specs.Naming.{names, numbers, name_of, IsNameTable}
+use Rattle.ot_logic.specs.Renamed.{map_named, map_symbol}
+use Rattle.ot_logic.proofs.TableLemmas.{Extends-refl, Extends-append}
 use Rattle.ot_laws.specs.Theorem.{IsTheorem}
 use Rattle.ot_laws.proofs.Definitions.{HasPremise, accepted-sound}
 use Rattle.ot_laws.proofs.Grown.{accepted-push}
@@ -34,7 +34,7 @@ use Rattle.ot_kernel.specs.Accepting.{adding, added_definition, accepting, IsAcc
 use Rattle.ot_kernel.proofs.Placing.{places-grown}
 use Rattle.ot_kernel.proofs.Accepted.{definition_stays, definitions_kept, held_stays, held_stay}
 use Rattle.ot_kernel.proofs.Namings.{map-push, name_of-index}
-use Rattle.ot_plain.proofs.Members.{IsMember-cases, IsMember-left, IsMember-right}
+use Rattle.ot_logic.proofs.Members.{IsMember-cases, IsMember-left, IsMember-right}
 
 -- ---- the symbols of a signature with more of them
 with_one : (ss : List (Symbol ℕ)) (t : Symbol ℕ) → IsSameSet (if is_among numbers t ss then ss else ss ++ t ∷ [])

@@ -5,11 +5,11 @@ use Rattle.std.specs.List.{All, list_any}
 use Rattle.std.specs.Map.{lookup}
 use Rattle.std.proofs.Common.{refl, sym, ap, ◌∙◌, subst}
 use Rattle.std.proofs.lemmas.List.Elements.{All-head, All-tail, All-push}
-use Rattle.ot_plain.specs.Names.{Name}
-use Rattle.ot_plain.specs.Trees.{Variable, Tm}
-use Rattle.ot_plain.specs.Hol.{same_var, HasType, IsTyped}
-use Rattle.ot_plain.specs.Naming.{names}
-use Rattle.ot_plain.specs.Rules.{has_type}
+use Rattle.ot_logic.specs.Names.{Name}
+use Rattle.ot_logic.specs.Trees.{Variable, Tm}
+use Rattle.ot_logic.specs.Hol.{same_var, HasType, IsTyped}
+use Rattle.ot_logic.specs.Naming.{names}
+use Rattle.ot_logic.specs.Rules.{has_type}
 use Rattle.ot_laws.proofs.Tests.{tells_names, has_type-is}
 use Rattle.ot_term.specs.Term.{TermTable}
 use Rattle.ot_term.specs.declared.term.VarKey.{VarKey}
@@ -19,7 +19,7 @@ use Rattle.ot_kernel.specs.Spelled.{Held}
 use Rattle.ot_kernel.specs.Pairs.{with_type, with_term, type_pairs, term_pairs, AreTypePairs, IsSubstIn}
 use Rattle.ot_kernel.proofs.Later.{Later, same_name-number, same_variable-number}
 use Rattle.ot_kernel.proofs.Namings.{map-push}
-use Rattle.ot_plain.proofs.Elements.{AllByRecursion-push}
+use Rattle.ot_logic.proofs.Elements.{AllByRecursion-push}
 
 -- ---- lists
 -- a key is found just where a test that agrees finds its image

@@ -1,11 +1,12 @@
 -- The theorem that a term follows from itself.
 use Rattle.std.specs.Prelude.{Ok}
 use Rattle.std.proofs.Common.{◌≡◌, ℕ, ◌<◌, true, [], ◌∷◌, List, map, length, refl, ◌∙◌}
-use Rattle.ot_plain.specs.Names.{Name}
-use Rattle.ot_plain.specs.Trees.{Tm, Sequent, Definition}
-use Rattle.ot_plain.specs.Hol.{bool_ty, nameless}
-use Rattle.ot_plain.specs.Rules.{has_type, assume_rule}
-use Rattle.ot_plain.specs.Naming.{names}
+use Rattle.ot_logic.specs.Names.{Name}
+use Rattle.ot_logic.specs.Trees.{Tm, Sequent, Definition}
+use Rattle.ot_logic.specs.Hol.{bool_ty}
+use Rattle.ot_logic.specs.NamedTerms.{nameless}
+use Rattle.ot_logic.specs.Rules.{has_type, assume_rule}
+use Rattle.ot_logic.specs.Naming.{names}
 use Rattle.ot_laws.specs.Theorem.{IsTheorem}
 use Rattle.ot_laws.proofs.Sound.{assume_rule-sound}
 use Rattle.ot_laws.proofs.Tests.{tells_names}

@@ -2,12 +2,12 @@
 use Rattle.std.specs.Option.{option_map}
 use Rattle.std.proofs.Common.{◌≡◌, ℕ, ◌<◌, cond, [], ◌∷◌, length, slice_get}
 use Rattle.std.proofs.Common.{Some, Result, Ok, refl, sym, ap, ◌∙◌, arith}
-use Rattle.ot_plain.specs.Trees.{Ty, Variable, Tm, Free, Con, Bound, App, Abs, NVar, Sequent}
-use Rattle.ot_plain.specs.Faults.{Fault, Nesting}
-use Rattle.ot_plain.specs.Hol.{fun_ty, bool_ty, type_in, HasType, IsClosed}
-use Rattle.ot_plain.specs.Hol.{nameless, is_shallow, same_var, close, sequent_of}
-use Rattle.ot_plain.specs.Naming.{numbers}
-use Rattle.ot_plain.specs.Rules.{within_limit, app_rule, abs_rule}
+use Rattle.ot_logic.specs.Trees.{Ty, Variable, Tm, Free, Con, Bound, App, Abs, NVar, Sequent}
+use Rattle.ot_logic.specs.Faults.{Fault, Nesting}
+use Rattle.ot_logic.specs.Hol.{fun_ty, bool_ty, type_in, HasType, IsClosed, is_shallow, same_var, close, sequent_of}
+use Rattle.ot_logic.specs.NamedTerms.{nameless}
+use Rattle.ot_logic.specs.Naming.{numbers}
+use Rattle.ot_logic.specs.Rules.{within_limit, app_rule, abs_rule}
 use Rattle.ot_laws.proofs.Steps.{limit-ok}
 use Rattle.ot_laws.proofs.Terms.{close_at_fresh}
 use Rattle.ot_laws.proofs.Tests.{tells_numbers, same_var-is}

@@ -1,10 +1,10 @@
 -- Applications and abstractions of both sides of equations, made one after the other over the table.
 use Rattle.std.proofs.Common.{◌≡◌, ℕ, ◌<◌, false, length, Result, Ok, sym, subst, ◌∙◌}
-use Rattle.ot_plain.specs.Trees.{Ty, Tm}
-use Rattle.ot_plain.specs.Faults.{Fault}
-use Rattle.ot_plain.specs.Hol.{is_free_in_some}
-use Rattle.ot_plain.specs.Naming.{numbers}
-use Rattle.ot_plain.specs.Rules.{app_rule, abs_rule, app_thm_rule, abs_thm_rule}
+use Rattle.ot_logic.specs.Trees.{Ty, Tm}
+use Rattle.ot_logic.specs.Faults.{Fault}
+use Rattle.ot_logic.specs.Hol.{is_free_in_some}
+use Rattle.ot_logic.specs.Naming.{numbers}
+use Rattle.ot_logic.specs.Rules.{app_rule, abs_rule, app_thm_rule, abs_thm_rule}
 use Rattle.ot_laws.proofs.Tests.{tells_numbers}
 use Rattle.ot_term.specs.Term.{TermTable}
 use Rattle.ot_term.specs.TermTable.{variable_of, Grows}

@@ -6,9 +6,9 @@ use Rattle.std.proofs.Common.{List, [], ◌∷◌, ◌++◌, length, get_or, tak
 use Rattle.std.proofs.Common.{ap, subst, ◌∙◌, arith, eqb-true, eq-eqb, append_assoc}
 use Rattle.std.proofs.lemmas.List.{append-nil, drop_all, take_rest, reverse-append}
 use Rattle.std.proofs.lemmas.List.Elements.{All-push}
-use Rattle.ot_plain.specs.Trees.{Tm}
-use Rattle.ot_plain.specs.Hol.{same_tm, is_in, lacking, union, once_each}
-use Rattle.ot_plain.specs.Naming.{numbers}
+use Rattle.ot_logic.specs.Trees.{Tm}
+use Rattle.ot_logic.specs.Hol.{same_tm, is_in, lacking, union, once_each}
+use Rattle.ot_logic.specs.Naming.{numbers}
 use Rattle.ot_term.specs.Term.{TermTable}
 use Rattle.ot_term.specs.TermTable.{IsTermTable}
 use Rattle.ot_kernel.specs.Numbered.{tm_at, tms_at}

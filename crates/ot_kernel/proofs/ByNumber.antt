@@ -2,12 +2,12 @@
 use Rattle.std.specs.Prelude.{◌&&◌, Ok, Err}
 use Rattle.std.specs.List.{list_all}
 use Rattle.std.proofs.Common.{◌≡◌, ℕ, Bool, true, false, List, [], ◌∷◌, length, refl, sym, ap, ◌∙◌, inl, inr}
-use Rattle.ot_plain.specs.Lists.{IsMember}
-use Rattle.ot_plain.specs.Trees.{Tm, Sequent}
-use Rattle.ot_plain.specs.Faults.{Nesting}
-use Rattle.ot_plain.specs.Hol.{is_shallow, is_shallow_sequent}
-use Rattle.ot_plain.specs.Naming.{numbers}
-use Rattle.ot_plain.specs.Rules.{within_limit}
+use Rattle.ot_logic.specs.Lists.{IsMember}
+use Rattle.ot_logic.specs.Trees.{Tm, Sequent}
+use Rattle.ot_logic.specs.Faults.{Nesting}
+use Rattle.ot_logic.specs.Hol.{is_shallow, is_shallow_sequent}
+use Rattle.ot_logic.specs.Naming.{numbers}
+use Rattle.ot_logic.specs.Rules.{within_limit}
 use Rattle.ot_term.specs.Term.{TermTable}
 use Rattle.ot_term.specs.TermTable.{IsTermTable}
 use Rattle.ot_kernel.specs.declared.theorem.Theorem.{Theorem}

@@ -1,8 +1,8 @@
 -- What holds of trees over one alphabet holds of the renamed trees over the other.
-use Rattle.ot_plain.specs.Trees.{Alphabet, Tys, Variable, Named, Sequent}
-use Rattle.ot_plain.specs.Renamed.{map_tys, map_variable, map_named, map_sequent}
-use Rattle.ot_plain.proofs.Line.{IsLettering, Line, letters, over_name, over_tys}
-use Rattle.ot_plain.proofs.Line.{over_variable, over_named, over_sequent}
+use Rattle.ot_logic.specs.Trees.{Alphabet, Tys, Variable, Named, Sequent}
+use Rattle.ot_logic.specs.Renamed.{map_tys, map_variable, map_named, map_sequent}
+use Rattle.ot_logic.proofs.Line.{IsLettering, Line, letters, over_name, over_tys}
+use Rattle.ot_logic.proofs.Line.{over_variable, over_named, over_sequent}
 
 module _ {M N : Type 0} (e : Equiv M N) (a : Alphabet M) (b : Alphabet N) (k : IsLettering e.0 a b) where
   abbrev A : (i : 𝕀) → Alphabet (V i M N e)

@@ -4,11 +4,11 @@ use Rattle.std.specs.List.{All}
 use Rattle.std.proofs.Common.{◌≡◌, ℕ, ◌<◌, List, [], length, slice_index_or, sym, ap, ◌∙◌, subst, arith}
 use Rattle.std.proofs.lemmas.List.Elements.{All-nil}
 use Rattle.std.proofs.lemmas.List.{length-map}
-use Rattle.ot_plain.specs.Names.{Name}
-use Rattle.ot_plain.specs.Hol.{same_tm, is_in, all_in}
-use Rattle.ot_plain.specs.Naming.{names, numbers, name_of}
-use Rattle.ot_plain.specs.Renamed.{map_named}
-use Rattle.ot_plain.proofs.Naming.{naming, lettering}
+use Rattle.ot_logic.specs.Names.{Name}
+use Rattle.ot_logic.specs.Hol.{same_tm, is_in, all_in}
+use Rattle.ot_logic.specs.Naming.{names, numbers, name_of}
+use Rattle.ot_logic.specs.Renamed.{map_named}
+use Rattle.ot_logic.proofs.Naming.{naming, lettering}
 use Rattle.ot_term.specs.Term.{TermTable}
 use Rattle.ot_kernel.specs.declared.theorem.Theorem.{Theorem}
 use Rattle.ot_kernel.specs.State.{State, term_at, terms_at, theorem_at}

@@ -3,12 +3,12 @@ use Rattle.std.specs.Prelude.{◌≡◌, ◌==◌, Bool, true, false, ◌&&◌, 
 use Rattle.std.specs.Prelude.{[], ◌∷◌, map, length, Option, Some, None, Result, Ok, Err}
 use Rattle.std.specs.List.{list_all}
 use Rattle.std.proofs.Common.{refl, ap, subst, inl, inr}
-use Rattle.ot_plain.specs.Lists.{IsMember, IsSameSet}
-use Rattle.ot_plain.specs.Trees.{Alphabet, Variable, Tm, Sequent, Symbol, ConSymbol, OpSymbol, Definition}
-use Rattle.ot_plain.specs.Hol.{same_var, vars_tm, symbols_tm, symbols_of, primitives, defined, used}
-use Rattle.ot_plain.specs.Faults.{Fault, Primitive, AlreadyDefined, SymbolInUse, NotClosed, TypeVarEscapes}
-use Rattle.ot_plain.specs.Faults.{BadDefinitionList, HypothesesPresent, NotApplication, BadTypeVars}
-use Rattle.ot_plain.specs.Answers.{◌>>=◌, unless, some_or}
+use Rattle.ot_logic.specs.Lists.{IsMember, IsSameSet}
+use Rattle.ot_logic.specs.Trees.{Alphabet, Variable, Tm, Sequent, Symbol, ConSymbol, OpSymbol, Definition}
+use Rattle.ot_logic.specs.Hol.{same_var, vars_tm, symbols_tm, symbols_of, primitives, defined, used}
+use Rattle.ot_logic.specs.Faults.{Fault, Primitive, AlreadyDefined, SymbolInUse, NotClosed, TypeVarEscapes}
+use Rattle.ot_logic.specs.Faults.{BadDefinitionList, HypothesesPresent, NotApplication, BadTypeVars}
+use Rattle.ot_logic.specs.Answers.{◌>>=◌, unless, some_or}
 use Rattle.ot_laws.proofs.Tests.{Tells}
 use Rattle.ot_laws.specs.Conditions.{is_among, refuse_first, refuse_defined, checked_symbols, is_closed}
 use Rattle.ot_laws.specs.Conditions.{is_closed_but, are_names_of, keeps_type_vars, are_distinct, is_empty}
@@ -16,7 +16,7 @@ use Rattle.ot_laws.specs.Conditions.{function_of, terms_given, checked_const, ch
 use Rattle.ot_laws.specs.Next.{AreSymbolsOf}
 use Rattle.ot_laws.proofs.Membership.{is_among-same_set}
 use Rattle.ot_kernel.specs.Defining.{all_defined, all_used}
-use Rattle.ot_plain.proofs.Members.{IsMember-flat_map, IsMember-flat_map_back}
+use Rattle.ot_logic.proofs.Members.{IsMember-flat_map, IsMember-flat_map_back}
 
 -- ---- the symbols that a refusal names
 abbrev pub NamesOnly : {N : Type 0} → (Symbol N → Type 0) → Fault N → Type 0

@@ -7,19 +7,20 @@ use Rattle.std.proofs.Math.Seq.{get_or-append_seam}
 use Rattle.std.proofs.lemmas.List.{append-nil}
 use Rattle.std.proofs.lemmas.List.Elements.{All-nil, All-cons}
 use mathlib.Core.Path.{PathP}
-use Rattle.ot_plain.specs.Names.{Name}
-use Rattle.ot_plain.specs.Lists.{IsSameSet}
-use Rattle.ot_plain.specs.Trees.{Alphabet, Tm, Con, Bound, Sequent, Symbol, ConSymbol, Definition, ConDef}
-use Rattle.ot_plain.specs.Hol.{type_of, equation, sequent_of, symbols_tm, symbols_all}
-use Rattle.ot_plain.specs.Hol.{is_shallow_sequent, theorems, defined, used, nameless, IsNext}
-use Rattle.ot_plain.specs.Faults.{Fault, NotClosed, TypeVarEscapes, Nesting}
-use Rattle.ot_plain.specs.Naming.{names, numbers, name_of}
-use Rattle.ot_plain.specs.Renamed.{map_symbol}
-use Rattle.ot_plain.specs.Rules.{within_limit}
-use Rattle.ot_plain.specs.Answers.{◌>>=◌, unless}
-use Rattle.ot_plain.proofs.Line.{over_name}
-use Rattle.ot_plain.proofs.Naming.{naming}
-use Rattle.ot_plain.proofs.TableLemmas.{Extends-trans, Extends-append, get_or-Extends}
+use Rattle.ot_logic.specs.Names.{Name}
+use Rattle.ot_logic.specs.Lists.{IsSameSet}
+use Rattle.ot_logic.specs.Trees.{Alphabet, Tm, Con, Bound, Sequent, Symbol, ConSymbol, Definition, ConDef}
+use Rattle.ot_logic.specs.Hol.{type_of, equation, sequent_of, symbols_tm, symbols_all}
+use Rattle.ot_logic.specs.Hol.{is_shallow_sequent, theorems, defined, used, IsNext}
+use Rattle.ot_logic.specs.NamedTerms.{nameless}
+use Rattle.ot_logic.specs.Faults.{Fault, NotClosed, TypeVarEscapes, Nesting}
+use Rattle.ot_logic.specs.Naming.{names, numbers, name_of}
+use Rattle.ot_logic.specs.Renamed.{map_symbol}
+use Rattle.ot_logic.specs.Rules.{within_limit}
+use Rattle.ot_logic.specs.Answers.{◌>>=◌, unless}
+use Rattle.ot_logic.proofs.Line.{over_name}
+use Rattle.ot_logic.proofs.Naming.{naming}
+use Rattle.ot_logic.proofs.TableLemmas.{Extends-trans, Extends-append, get_or-Extends}
 use Rattle.ot_laws.proofs.Steps.{within_limit-ok}
 use Rattle.ot_laws.proofs.Tests.{tells_names}
 use Rattle.ot_term.specs.Term.{TermTable}

@@ -4,11 +4,11 @@ use Rattle.std.specs.List.{All}
 use Rattle.std.proofs.Common.{◌≡◌, ℕ, ◌<◌, false, [], length, Some, None, refl, sym, ap, subst, ◌∙◌, arith}
 use Rattle.std.proofs.lemmas.Option.{same_Some, slice_get-get_or}
 use Rattle.std.proofs.lemmas.List.Elements.{All-nil}
-use Rattle.ot_plain.specs.Trees.{Ty, TyVar, Tm, Free, Con, Bound, App, Abs, NConst}
-use Rattle.ot_plain.specs.Faults.{NotRedex, Nesting}
-use Rattle.ot_plain.specs.Hol.{HasType, type_in, type_of, is_shallow, opened, equation, sequent_of, fun_ty, bool_ty}
-use Rattle.ot_plain.specs.Naming.{numbers}
-use Rattle.ot_plain.specs.Rules.{within_limit, beta_conv_rule}
+use Rattle.ot_logic.specs.Trees.{Ty, TyVar, Tm, Free, Con, Bound, App, Abs, NConst}
+use Rattle.ot_logic.specs.Faults.{NotRedex, Nesting}
+use Rattle.ot_logic.specs.Hol.{HasType, type_in, type_of, is_shallow, opened, equation, sequent_of, fun_ty, bool_ty}
+use Rattle.ot_logic.specs.Naming.{numbers}
+use Rattle.ot_logic.specs.Rules.{within_limit, beta_conv_rule}
 use Rattle.ot_laws.proofs.Equations.{equation-sides}
 use Rattle.ot_laws.proofs.Tests.{tells_numbers}
 use Rattle.ot_laws.proofs.Typed.{beta_conv-typed}

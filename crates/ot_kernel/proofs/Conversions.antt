@@ -1,10 +1,10 @@
 -- The constants of a new type over the table, and its theorems.
 use Rattle.std.proofs.Common.{◌≡◌, ℕ, ◌<◌, List, [], length, Some, Result, Ok, sym, ap, subst, ◌∙◌, arith}
-use Rattle.ot_plain.specs.Trees.{Ty, Tm, Named, Free, Con, App, Sequent}
-use Rattle.ot_plain.specs.Faults.{Fault, Nesting}
-use Rattle.ot_plain.specs.Hol.{fun_ty, bool_ty, type_in, HasType, equation, sequent_of, is_shallow}
-use Rattle.ot_plain.specs.Naming.{numbers}
-use Rattle.ot_plain.specs.Rules.{within_limit}
+use Rattle.ot_logic.specs.Trees.{Ty, Tm, Named, Free, Con, App, Sequent}
+use Rattle.ot_logic.specs.Faults.{Fault, Nesting}
+use Rattle.ot_logic.specs.Hol.{fun_ty, bool_ty, type_in, HasType, equation, sequent_of, is_shallow}
+use Rattle.ot_logic.specs.Naming.{numbers}
+use Rattle.ot_logic.specs.Rules.{within_limit}
 use Rattle.ot_laws.proofs.Steps.{limit-ok}
 use Rattle.ot_type.specs.TypeTable.{type_at}
 use Rattle.ot_term.specs.Term.{TermTable}

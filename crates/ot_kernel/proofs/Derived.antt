@@ -3,15 +3,15 @@ use Rattle.std.specs.Prelude.{◌≡◌, ℕ, ◌<◌, List, length, Result, Ok,
 use Rattle.std.proofs.Common.{sym, ap, ◌∙◌, subst, arith}
 use Rattle.std.proofs.lemmas.List.{length-map}
 use mathlib.Core.Path.{PathP}
-use Rattle.ot_plain.specs.Names.{Name}
-use Rattle.ot_plain.specs.Trees.{Alphabet, Variable, Tm, Sequent, Definition}
-use Rattle.ot_plain.specs.Faults.{Fault}
-use Rattle.ot_plain.specs.Rules.{abs_thm_rule, subst_rule}
-use Rattle.ot_plain.specs.Hol.{TypeMap, TermMap, IsSequent, IsTyped, IsWellTyped}
-use Rattle.ot_plain.specs.Naming.{names, numbers, name_of}
-use Rattle.ot_plain.specs.Renamed.{map_named}
-use Rattle.ot_plain.proofs.Line.{over_sequent}
-use Rattle.ot_plain.proofs.Naming.{naming}
+use Rattle.ot_logic.specs.Names.{Name}
+use Rattle.ot_logic.specs.Trees.{Alphabet, Variable, Tm, Sequent, Definition}
+use Rattle.ot_logic.specs.Faults.{Fault}
+use Rattle.ot_logic.specs.Rules.{abs_thm_rule, subst_rule}
+use Rattle.ot_logic.specs.Hol.{TypeMap, TermMap, IsSequent, IsTyped, IsWellTyped}
+use Rattle.ot_logic.specs.Naming.{names, numbers, name_of}
+use Rattle.ot_logic.specs.Renamed.{map_named}
+use Rattle.ot_logic.proofs.Line.{over_sequent}
+use Rattle.ot_logic.proofs.Naming.{naming}
 use Rattle.ot_term.specs.Term.{TermTable}
 use Rattle.ot_term.specs.TermTable.{variable_of}
 use Rattle.ot_term.specs.declared.term.VarKey.{VarKey}

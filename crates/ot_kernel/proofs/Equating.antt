@@ -5,11 +5,12 @@ use Rattle.std.proofs.Common.{◌≡◌, ℕ, ◌<◌, true, false, List, [], �
 use Rattle.std.proofs.Common.{Some, None, Result, Ok, refl, sym, ap, ◌∙◌, subst, arith}
 use Rattle.std.proofs.lemmas.List.Elements.{All-head, All-tail}
 use Rattle.std.proofs.lemmas.Option.{slice_get-get_or, same_Some}
-use Rattle.ot_plain.specs.Trees.{Ty, TyVar, Tm, Named, NVar, NConst, NApp, NAbs, Sequent}
-use Rattle.ot_plain.specs.Faults.{Fault}
-use Rattle.ot_plain.specs.Hol.{type_in, HasType, equation, as_equation, is_shallow, same_tm, union, nameless}
-use Rattle.ot_plain.specs.Naming.{numbers}
-use Rattle.ot_plain.specs.Rules.{within_limit, trans_rule}
+use Rattle.ot_logic.specs.Trees.{Ty, TyVar, Tm, Named, NVar, NConst, NApp, NAbs, Sequent}
+use Rattle.ot_logic.specs.Faults.{Fault}
+use Rattle.ot_logic.specs.Hol.{type_in, HasType, equation, as_equation, is_shallow, same_tm, union}
+use Rattle.ot_logic.specs.NamedTerms.{nameless}
+use Rattle.ot_logic.specs.Naming.{numbers}
+use Rattle.ot_logic.specs.Rules.{within_limit, trans_rule}
 use Rattle.ot_laws.proofs.Tests.{tells_numbers, same_tm-is}
 use Rattle.ot_laws.proofs.Typing.{type-nameless}
 use Rattle.ot_laws.proofs.Equations.{as_equation-some, as_equation-equation, equation-sides}

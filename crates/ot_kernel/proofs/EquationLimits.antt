@@ -2,9 +2,9 @@
 use Rattle.std.specs.Prelude.{nat_le}
 use Rattle.std.proofs.Common.{◌≡◌, suc, ◌≤◌, true, ◌&&◌, [], Option, sym, ◌∙◌, subst, arith}
 use Rattle.std.proofs.lemmas.Bool.{leb-true, le-leb, and_parts, and_from}
-use Rattle.ot_plain.specs.Trees.{Alphabet, Ty, Tm, Con, App}
-use Rattle.ot_plain.specs.Hol.{depth_limit, fun_ty, bool_ty, type_in, applied, HasType, depth_tm}
-use Rattle.ot_plain.specs.Hol.{is_shallow_type, has_shallow_types, is_shallow, equation}
+use Rattle.ot_logic.specs.Trees.{Alphabet, Ty, Tm, Con, App}
+use Rattle.ot_logic.specs.Hol.{depth_limit, fun_ty, bool_ty, type_in, applied, HasType, depth_tm}
+use Rattle.ot_logic.specs.Hol.{is_shallow_type, has_shallow_types, is_shallow, equation}
 
 module _ {N : Type 0} (alphabet : Alphabet N) where
   -- the constant `=`, and its application to the left side

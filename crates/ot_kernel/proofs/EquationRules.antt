@@ -4,12 +4,12 @@ use Rattle.std.proofs.Common.{◌≡◌, ℕ, Bool, true, false, ◌&&◌, if◌
 use Rattle.std.proofs.Common.{Some, None, Result, Ok, Err, refl, sym, ap, ◌∙◌, subst, inl, inr, ◌⊎◌}
 use Rattle.std.proofs.Math.Bool.{and-false}
 use Rattle.std.proofs.lemmas.Option.{same_Some}
-use Rattle.ot_plain.specs.Trees.{Alphabet, Ty, Variable, Tm, App, Abs, Sequent}
-use Rattle.ot_plain.specs.Hol.{same_ty, fun_ty, as_fun_ty, HasType, close, is_shallow, is_shallow_sequent}
-use Rattle.ot_plain.specs.Hol.{same_tm, equation, as_equation, union, is_free_in_some}
-use Rattle.ot_plain.specs.Faults.{Fault, NotFunction, ArgumentType, NotAlphaEqual, Nesting}
-use Rattle.ot_plain.specs.Rules.{has_type, within_limit, app_rule, abs_rule, eq_mp_rule}
-use Rattle.ot_plain.specs.Rules.{abs_thm_rule, app_thm_rule, sym_rule, trans_rule}
+use Rattle.ot_logic.specs.Trees.{Alphabet, Ty, Variable, Tm, App, Abs, Sequent}
+use Rattle.ot_logic.specs.Hol.{same_ty, fun_ty, as_fun_ty, HasType, close, is_shallow, is_shallow_sequent}
+use Rattle.ot_logic.specs.Hol.{same_tm, equation, as_equation, union, is_free_in_some}
+use Rattle.ot_logic.specs.Faults.{Fault, NotFunction, ArgumentType, NotAlphaEqual, Nesting}
+use Rattle.ot_logic.specs.Rules.{has_type, within_limit, app_rule, abs_rule, eq_mp_rule}
+use Rattle.ot_logic.specs.Rules.{abs_thm_rule, app_thm_rule, sym_rule, trans_rule}
 use Rattle.ot_laws.proofs.Tests.{Tells, cases_of, same_ty-is, has_type-is}
 use Rattle.ot_laws.proofs.Typing.{as_fun_ty-some, as_fun_ty-fun, type_of-is, app-typed, type-close_at}
 use Rattle.ot_laws.proofs.Steps.{limit-ok, app_rule-ok}

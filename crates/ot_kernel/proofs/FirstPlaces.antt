@@ -6,11 +6,11 @@ use Rattle.std.proofs.Common.{◌≡◌, ℕ, ◌<◌, ◌≤◌, Bool, true, fa
 use Rattle.std.proofs.Common.{map, take, drop, refl, sym, ap, ◌∙◌, inl, inr, arith}
 use Rattle.std.proofs.lemmas.List.{length-take, get_or-take, drop-map, length-map}
 use Rattle.std.proofs.lemmas.Option.{get_or_from_slice_get}
-use Rattle.ot_plain.specs.Names.{Name}
-use Rattle.ot_plain.specs.Trees.{Bound, Sequent}
-use Rattle.ot_plain.specs.Hol.{same_tm, same_sequent}
-use Rattle.ot_plain.specs.Naming.{names, numbers, name_of}
-use Rattle.ot_plain.specs.Renamed.{map_named}
+use Rattle.ot_logic.specs.Names.{Name}
+use Rattle.ot_logic.specs.Trees.{Bound, Sequent}
+use Rattle.ot_logic.specs.Hol.{same_tm, same_sequent}
+use Rattle.ot_logic.specs.Naming.{names, numbers, name_of}
+use Rattle.ot_logic.specs.Renamed.{map_named}
 use Rattle.ot_term.specs.Term.{TermTable}
 use Rattle.ot_laws.proofs.Tests.{tells_numbers, cases_of, same_tm-is}
 use Rattle.ot_kernel.specs.State.{State, term_at, theorem_at}
@@ -19,7 +19,7 @@ use Rattle.ot_kernel.specs.Numbered.{tm_at}
 use Rattle.ot_kernel.proofs.Namings.{index-map}
 use Rattle.ot_kernel.proofs.Placing.{find-past}
 use Rattle.ot_kernel.proofs.Theorems.{real_theorem, same_tm-real}
-use Rattle.ot_plain.proofs.Elements.{slice_get-there, All-slice_get}
+use Rattle.ot_logic.proofs.Elements.{slice_get-there, All-slice_get}
 
 -- as many as their numbers
 pub counted : (ns : List Name) (t : TermTable) (held : Held) (now : State) → state_of ns t held ≡ now

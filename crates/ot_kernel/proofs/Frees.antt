@@ -1,9 +1,9 @@
 -- Whether a variable is free in one of the terms, one after another.
 use Rattle.std.specs.Prelude.{◌||◌}
 use Rattle.std.proofs.Common.{◌≡◌, ℕ, ◌+◌, ◌<◌, Bool, List, length, get_or, drop, sym, ap, ◌∙◌}
-use Rattle.ot_plain.specs.Trees.{Variable, Named}
-use Rattle.ot_plain.specs.Hol.{is_free, is_free_in_some}
-use Rattle.ot_plain.specs.Naming.{numbers}
+use Rattle.ot_logic.specs.Trees.{Variable, Named}
+use Rattle.ot_logic.specs.Hol.{is_free, is_free_in_some}
+use Rattle.ot_logic.specs.Naming.{numbers}
 use Rattle.ot_kernel.specs.Numbered.{tm_at, tms_at}
 use Rattle.ot_kernel.proofs.Namings.{map-drop}
 

@@ -5,14 +5,15 @@ use Rattle.std.proofs.Common.{refl, sym, ap, subst, arith}
 use Rattle.std.proofs.lemmas.Option.{slice_get-get_or, get_or_from_slice_get}
 use Rattle.std.proofs.lemmas.List.Elements.{All-head, All-tail}
 use Rattle.std.proofs.lemmas.List.{length-map}
-use Rattle.ot_plain.specs.Names.{Name}
-use Rattle.ot_plain.specs.Trees.{TyVar, Named, NConst, Sequent, Definition}
-use Rattle.ot_plain.specs.Hol.{nameless, IsSequent, Accepted}
-use Rattle.ot_plain.specs.Renamed.{map_ty, map_named}
-use Rattle.ot_plain.specs.Naming.{names, name_of, IsNameTable}
-use Rattle.ot_plain.specs.Bounds.{names_in, names_in_terms}
-use Rattle.ot_plain.specs.Table.{Extends}
-use Rattle.ot_plain.proofs.TableLemmas.{Extends-refl}
+use Rattle.ot_logic.specs.Names.{Name}
+use Rattle.ot_logic.specs.Trees.{TyVar, Named, NConst, Sequent, Definition}
+use Rattle.ot_logic.specs.Hol.{IsSequent, Accepted}
+use Rattle.ot_logic.specs.NamedTerms.{nameless}
+use Rattle.ot_logic.specs.Renamed.{map_ty, map_named}
+use Rattle.ot_logic.specs.Naming.{names, name_of, IsNameTable}
+use Rattle.ot_logic.specs.Bounds.{names_in, names_in_terms}
+use Rattle.ot_logic.specs.Table.{Extends}
+use Rattle.ot_logic.proofs.TableLemmas.{Extends-refl}
 use Rattle.ot_term.specs.Term.{TermTable}
 use Rattle.ot_term.specs.TermTable.{Grows, IsTermTable, IsGrownTo}
 use Rattle.ot_kernel.specs.declared.theorem.Theorem.{Theorem}

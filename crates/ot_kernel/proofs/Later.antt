@@ -7,16 +7,17 @@ use mathlib.Core.Path.{PathP}
 use Rattle.std.proofs.lemmas.Option.{slice_get-get_or}
 use Rattle.std.proofs.lemmas.List.Elements.{All-head, All-tail}
 use Rattle.std.proofs.lemmas.List.{length-map}
-use Rattle.ot_plain.specs.Names.{Name}
-use Rattle.ot_plain.specs.Trees.{Alphabet, Ty, TyVar, Variable, Tm, Bound, Named, NConst, Sequent}
-use Rattle.ot_plain.specs.Hol.{same_ty, same_var, nameless, named_type, IsWellTyped, TypeMap, TermMap}
-use Rattle.ot_plain.specs.Naming.{names, numbers, name_of, IsNameTable}
-use Rattle.ot_plain.specs.Renamed.{map_ty, map_variable, map_tm, map_named, map_sequent}
-use Rattle.ot_plain.proofs.Line.{IsLettering, Line, letters, over_list, over_ty, over_tm, over_variable, over_sequent}
-use Rattle.ot_plain.proofs.Lift.{map_types, map_terms, over_types, over_terms}
-use Rattle.ot_plain.proofs.Naming.{naming, lettering}
-use Rattle.ot_plain.proofs.TableLemmas.{Extends-refl, get_or-Extends}
-use Rattle.ot_plain.specs.Rules.{has_type}
+use Rattle.ot_logic.specs.Names.{Name}
+use Rattle.ot_logic.specs.Trees.{Alphabet, Ty, TyVar, Variable, Tm, Bound, Named, NConst, Sequent}
+use Rattle.ot_logic.specs.Hol.{same_ty, same_var, IsWellTyped, TypeMap, TermMap}
+use Rattle.ot_logic.specs.NamedTerms.{nameless, named_type}
+use Rattle.ot_logic.specs.Naming.{names, numbers, name_of, IsNameTable}
+use Rattle.ot_logic.specs.Renamed.{map_ty, map_variable, map_tm, map_named, map_sequent}
+use Rattle.ot_logic.proofs.Line.{IsLettering, Line, letters, over_list, over_ty, over_tm, over_variable, over_sequent}
+use Rattle.ot_logic.proofs.Lift.{map_types, map_terms, over_types, over_terms}
+use Rattle.ot_logic.proofs.Naming.{naming, lettering}
+use Rattle.ot_logic.proofs.TableLemmas.{Extends-refl, get_or-Extends}
+use Rattle.ot_logic.specs.Rules.{has_type}
 use Rattle.ot_alpha.proofs.Comparison.{same_type}
 use Rattle.ot_type.specs.TypeTable.{type_at as type_tree, images}
 use Rattle.ot_term.specs.Term.{TermTable}

@@ -2,9 +2,9 @@
 use Rattle.std.specs.Prelude.{nat_le, ◌&&◌}
 use Rattle.std.specs.Option.{option_map}
 use Rattle.std.proofs.Common.{◌≡◌, suc, max, List, [], ◌∷◌, Some, refl, sym, ap, subst, ◌∙◌, ◌⊎◌, inl, inr}
-use Rattle.ot_plain.specs.Trees.{Alphabet, Ty, TyVar, Variable, Tm, Free, Con, Bound, App, Abs}
-use Rattle.ot_plain.specs.Hol.{depth_limit, fun_ty, type_in, applied, inst_var, bind, term_at, subst_tm}
-use Rattle.ot_plain.specs.Hol.{depth_tm, is_shallow_type, has_shallow_types, is_shallow, constants_for}
+use Rattle.ot_logic.specs.Trees.{Alphabet, Ty, TyVar, Variable, Tm, Free, Con, Bound, App, Abs}
+use Rattle.ot_logic.specs.Hol.{depth_limit, fun_ty, type_in, applied, inst_var, bind, term_at, subst_tm}
+use Rattle.ot_logic.specs.Hol.{depth_tm, is_shallow_type, has_shallow_types, is_shallow, constants_for}
 use Rattle.ot_laws.proofs.Tests.{Tells, var_cases}
 use Rattle.ot_laws.proofs.Terms.{inst_by-id}
 use Rattle.ot_laws.proofs.Opened.{inst_var-nil}

@@ -7,15 +7,15 @@ use Rattle.std.proofs.lemmas.List.{get_or_append_left}
 use Rattle.std.proofs.lemmas.List.{append-nil, length-map}
 use Rattle.std.proofs.lemmas.List.Elements.{All-head, All-tail, All-nil, All-cons}
 use mathlib.Core.Path.{PathP}
-use Rattle.ot_plain.specs.Names.{Name}
-use Rattle.ot_plain.specs.Lists.{IsMember, IsSameSet, AreDistinct}
-use Rattle.ot_plain.specs.Trees.{Alphabet, Variable, Bound, Sequent, Symbol, ConSymbol, Definition, ListDef}
-use Rattle.ot_plain.specs.Hol.{symbols_tm, symbols_all, symbols_of, subst_tm}
-use Rattle.ot_plain.specs.Hol.{constants_for, sequent_of, theorems, defined, used, IsNext}
-use Rattle.ot_plain.specs.Faults.{Fault}
-use Rattle.ot_plain.specs.Naming.{names, numbers, name_of}
-use Rattle.ot_plain.specs.Renamed.{map_symbol}
-use Rattle.ot_plain.specs.Answers.{◌>>=◌}
+use Rattle.ot_logic.specs.Names.{Name}
+use Rattle.ot_logic.specs.Lists.{IsMember, IsSameSet, AreDistinct}
+use Rattle.ot_logic.specs.Trees.{Alphabet, Variable, Bound, Sequent, Symbol, ConSymbol, Definition, ListDef}
+use Rattle.ot_logic.specs.Hol.{symbols_tm, symbols_all, symbols_of, subst_tm}
+use Rattle.ot_logic.specs.Hol.{constants_for, sequent_of, theorems, defined, used, IsNext}
+use Rattle.ot_logic.specs.Faults.{Fault}
+use Rattle.ot_logic.specs.Naming.{names, numbers, name_of}
+use Rattle.ot_logic.specs.Renamed.{map_symbol}
+use Rattle.ot_logic.specs.Answers.{◌>>=◌}
 use Rattle.ot_laws.proofs.Tests.{tells_names}
 use Rattle.ot_term.specs.Term.{TermTable}
 use Rattle.ot_term.specs.TermTable.{variable_of}
@@ -42,8 +42,8 @@ use Rattle.ot_kernel.proofs.Constants.{over-name}
 use Rattle.ot_kernel.proofs.Accepted.{pairs_stay, theorem_stays}
 use Rattle.ot_kernel.proofs.Derived.{Made, made}
 use Rattle.ot_kernel.proofs.Later.{Later, Between, over-variable, over-theorem, IsHeld, held_sound}
-use Rattle.ot_plain.proofs.Members.{IsMember-map_back, All-at_member}
-use Rattle.ot_plain.proofs.Results.{same_Ok}
+use Rattle.ot_logic.proofs.Members.{IsMember-map_back, All-at_member}
+use Rattle.ot_logic.proofs.Results.{same_Ok}
 
 -- ---- pairs
 zip_firsts : {N : Type 0} (alphabet : Alphabet N) (ns : List N) (vs : List (Variable N)) → length ns ≡ length vs

@@ -4,14 +4,14 @@ use Rattle.std.specs.Prelude.{◌++◌, map, length, slice_get, slice_index_or, 
 use Rattle.std.proofs.Common.{◌+◌, get_or, drop, drop-cons, add-one, inl, inr, refl, sym, ◌∙◌, ap, arith}
 use Rattle.std.proofs.lemmas.Option.{none-some, same_Some, slice_get-get_or, get_or_from_slice_get}
 use Rattle.std.proofs.lemmas.List.{length-map}
-use Rattle.ot_plain.specs.Lists.{IsMember, AreDistinct}
-use Rattle.ot_plain.specs.Names.{Name}
-use Rattle.ot_plain.specs.Trees.{Ty, Tys, TyVar, TyOp, NoTys, MoreTys, Variable, Named, NVar, NConst, NApp, NAbs}
-use Rattle.ot_plain.specs.Renamed.{map_ty, map_tys, map_named, map_variable}
-use Rattle.ot_plain.specs.Naming.{names, name_of, IsNames, IsNameTable}
-use Rattle.ot_plain.specs.Bounds.{bound_ty, bound_tys, bound_named, names_in, names_in_terms}
-use Rattle.ot_plain.specs.Table.{Extends, IsInjective}
-use Rattle.ot_plain.proofs.Naming.{name_of-at}
+use Rattle.ot_logic.specs.Lists.{IsMember, AreDistinct}
+use Rattle.ot_logic.specs.Names.{Name}
+use Rattle.ot_logic.specs.Trees.{Ty, Tys, TyVar, TyOp, NoTys, MoreTys, Variable, Named, NVar, NConst, NApp, NAbs}
+use Rattle.ot_logic.specs.Renamed.{map_ty, map_tys, map_named, map_variable}
+use Rattle.ot_logic.specs.Naming.{names, name_of, IsNames, IsNameTable}
+use Rattle.ot_logic.specs.Bounds.{bound_ty, bound_tys, bound_named, names_in, names_in_terms}
+use Rattle.ot_logic.specs.Table.{Extends, IsInjective}
+use Rattle.ot_logic.proofs.Naming.{name_of-at}
 
 -- ---- two namings that agree below k
 module _ (k : ℕ) (f g : ℕ → Name) (agree : (i : ℕ) → i < k → f i ≡ g i) where

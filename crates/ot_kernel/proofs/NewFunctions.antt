@@ -3,12 +3,13 @@ use Rattle.std.specs.List.{All}
 use Rattle.std.proofs.Common.{◌≡◌, ℕ, ◌<◌, Bool, true, false, [], length, slice_get}
 use Rattle.std.proofs.Common.{Some, Result, Ok, refl, sym, ap, subst, ◌∙◌}
 use Rattle.std.proofs.lemmas.List.Elements.{All-nil}
-use Rattle.ot_plain.specs.Trees.{Alphabet, Ty, Variable, Tm, Con, App, Abs, Named, NConst, Sequent}
-use Rattle.ot_plain.specs.Faults.{Fault}
-use Rattle.ot_plain.specs.Hol.{fun_ty, bool_ty, type_in, HasType, close, nameless}
-use Rattle.ot_plain.specs.Hol.{is_shallow, equation, as_equation, type_of, sequent_of}
-use Rattle.ot_plain.specs.Naming.{numbers}
-use Rattle.ot_plain.specs.Rules.{within_limit, app_rule, abs_rule, abs_thm_rule}
+use Rattle.ot_logic.specs.Trees.{Alphabet, Ty, Variable, Tm, Con, App, Abs, Named, NConst, Sequent}
+use Rattle.ot_logic.specs.Faults.{Fault}
+use Rattle.ot_logic.specs.Hol.{fun_ty, bool_ty, type_in, HasType, close, is_shallow}
+use Rattle.ot_logic.specs.Hol.{equation, as_equation, type_of, sequent_of}
+use Rattle.ot_logic.specs.NamedTerms.{nameless}
+use Rattle.ot_logic.specs.Naming.{numbers}
+use Rattle.ot_logic.specs.Rules.{within_limit, app_rule, abs_rule, abs_thm_rule}
 use Rattle.ot_laws.proofs.Tests.{Tells, tells_numbers, has_type-is}
 use Rattle.ot_laws.proofs.Typing.{type_of-is, type_of-typed, as_fun_ty-fun}
 use Rattle.ot_laws.proofs.Equations.{as_equation-equation}

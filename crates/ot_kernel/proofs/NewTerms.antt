@@ -2,11 +2,12 @@
 use Rattle.std.specs.Prelude.{◌≢◌}
 use Rattle.std.proofs.Common.{◌≡◌, ℕ, ◌<◌, true, false, [], length, slice_get, Some, Ok, Err, refl, sym, ap, ◌∙◌}
 use Rattle.std.proofs.lemmas.Option.{slice_get_within, get_or_from_slice_get}
-use Rattle.ot_plain.specs.Trees.{Ty, TyVar, Variable, Tm, Named, NConst, NApp, NAbs}
-use Rattle.ot_plain.specs.Faults.{NotFunction, ArgumentType, Nesting}
-use Rattle.ot_plain.specs.Hol.{fun_ty, type_in, is_shallow, nameless, named_type}
-use Rattle.ot_plain.specs.Naming.{numbers}
-use Rattle.ot_plain.specs.Rules.{app_rule, abs_rule}
+use Rattle.ot_logic.specs.Trees.{Ty, TyVar, Variable, Tm, Named, NConst, NApp, NAbs}
+use Rattle.ot_logic.specs.Faults.{NotFunction, ArgumentType, Nesting}
+use Rattle.ot_logic.specs.Hol.{fun_ty, type_in, is_shallow}
+use Rattle.ot_logic.specs.NamedTerms.{nameless, named_type}
+use Rattle.ot_logic.specs.Naming.{numbers}
+use Rattle.ot_logic.specs.Rules.{app_rule, abs_rule}
 use Rattle.ot_laws.proofs.Tests.{tells_numbers}
 use Rattle.ot_laws.proofs.Typing.{type-nameless}
 use Rattle.ot_type.specs.declared.fault.TableFault.{TableFault}

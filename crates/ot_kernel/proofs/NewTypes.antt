@@ -8,14 +8,15 @@ use Rattle.std.proofs.Common.{Some, Result, Ok, Err, refl, sym, ap, subst, â—Œâˆ
 use Rattle.std.proofs.lemmas.List.{map-append}
 use Rattle.std.proofs.lemmas.List.Elements.{All-push, All-head, All-tail}
 use Rattle.std.proofs.lemmas.Option.{slice_get_within, get_or_from_slice_get}
-use Rattle.ot_plain.specs.Trees.{Ty, Tys, TyVar, TyOp, NoTys, MoreTys, Variable, Tm}
-use Rattle.ot_plain.specs.Trees.{Free, Con, Bound, App, Abs, NVar, NConst, NApp, Sequent}
-use Rattle.ot_plain.specs.Faults.{Fault, Nesting}
-use Rattle.ot_plain.specs.Answers.{unless}
-use Rattle.ot_plain.specs.Hol.{depth_limit, depth_ty, depth_all, fun_ty, bool_ty, close_at, nameless}
-use Rattle.ot_plain.specs.Hol.{equation, sequent_of, tys_of_vars, type_theorems, is_shallow_sequent, IsClosed}
-use Rattle.ot_plain.specs.Naming.{numbers}
-use Rattle.ot_plain.specs.Rules.{within_limit}
+use Rattle.ot_logic.specs.Trees.{Ty, Tys, TyVar, TyOp, NoTys, MoreTys, Variable, Tm}
+use Rattle.ot_logic.specs.Trees.{Free, Con, Bound, App, Abs, NVar, NConst, NApp, Sequent}
+use Rattle.ot_logic.specs.Faults.{Fault, Nesting}
+use Rattle.ot_logic.specs.Answers.{unless}
+use Rattle.ot_logic.specs.Hol.{depth_limit, depth_ty, depth_all, fun_ty, bool_ty, close_at, equation}
+use Rattle.ot_logic.specs.Hol.{sequent_of, tys_of_vars, type_theorems, is_shallow_sequent, IsClosed}
+use Rattle.ot_logic.specs.NamedTerms.{nameless}
+use Rattle.ot_logic.specs.Naming.{numbers}
+use Rattle.ot_logic.specs.Rules.{within_limit}
 use Rattle.ot_laws.proofs.Tests.{tells_numbers, same_var-is}
 use Rattle.ot_laws.proofs.Terms.{close_at_fresh}
 use Rattle.ot_laws.proofs.Steps.{within_limit-ok}

@@ -6,16 +6,17 @@ use Rattle.std.proofs.Common.{slice_get, Some, refl, sym, ap, ◌∙◌, subst, 
 use Rattle.std.proofs.lemmas.List.Elements.{All-head, All-tail}
 use Rattle.std.proofs.lemmas.Option.{slice_get_within, get_or_from_slice_get}
 use Rattle.std.proofs.lemmas.List.{length-map}
-use Rattle.ot_plain.specs.Names.{Name}
-use Rattle.ot_plain.specs.Trees.{Alphabet, Ty, Tys, TyVar, TyOp, NoTys, MoreTys}
-use Rattle.ot_plain.specs.Trees.{Variable, Free, Con, Named, NVar, NConst, NApp, NAbs}
-use Rattle.ot_plain.specs.Hol.{fun_ty, bool_ty, depth_ty, depth_limit, nameless, named_type}
-use Rattle.ot_plain.specs.Renamed.{map_ty, map_tys, map_variable, map_named}
-use Rattle.ot_plain.specs.Naming.{names, numbers, name_of}
-use Rattle.ot_plain.specs.Faults.{NotFunction, ArgumentType, Nesting}
-use Rattle.ot_plain.specs.Rules.{op_rule, app_rule, abs_rule}
-use Rattle.ot_plain.proofs.Line.{IsLettering}
-use Rattle.ot_plain.proofs.Naming.{naming, lettering}
+use Rattle.ot_logic.specs.Names.{Name}
+use Rattle.ot_logic.specs.Trees.{Alphabet, Ty, Tys, TyVar, TyOp, NoTys, MoreTys}
+use Rattle.ot_logic.specs.Trees.{Variable, Free, Con, Named, NVar, NConst, NApp, NAbs}
+use Rattle.ot_logic.specs.Hol.{fun_ty, bool_ty, depth_ty, depth_limit}
+use Rattle.ot_logic.specs.NamedTerms.{nameless, named_type}
+use Rattle.ot_logic.specs.Renamed.{map_ty, map_tys, map_variable, map_named}
+use Rattle.ot_logic.specs.Naming.{names, numbers, name_of}
+use Rattle.ot_logic.specs.Faults.{NotFunction, ArgumentType, Nesting}
+use Rattle.ot_logic.specs.Rules.{op_rule, app_rule, abs_rule}
+use Rattle.ot_logic.proofs.Line.{IsLettering}
+use Rattle.ot_logic.proofs.Naming.{naming, lettering}
 use Rattle.ot_laws.proofs.Tests.{tells_numbers}
 use Rattle.ot_type.specs.TypeTable as types
 use Rattle.ot_type.specs.declared.fault.TableFault.{TableFault}

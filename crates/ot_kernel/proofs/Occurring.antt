@@ -5,15 +5,16 @@ use Rattle.std.proofs.Common.{refl, sym, ap, ◌∙◌, subst, arith, inl, inr, 
 use Rattle.std.proofs.lemmas.List.{append-nil, map-append}
 use Rattle.std.proofs.lemmas.List.Elements.{All-head, All-tail}
 use Rattle.std.proofs.lemmas.Option.{slice_get-get_or}
-use Rattle.ot_plain.specs.Lists.{IsMember, IsSameSet}
-use Rattle.ot_plain.specs.Names.{Name}
-use Rattle.ot_plain.specs.Trees.{Ty, Tys, TyVar, TyOp, NoTys, MoreTys, Tm, Named}
-use Rattle.ot_plain.specs.Trees.{NVar, NConst, NApp, NAbs, Sequent, Symbol, OpSymbol}
-use Rattle.ot_plain.specs.Hol.{ops_ty, ops_all, symbols_ty, symbols_tm, symbols_all, symbols_of, nameless}
-use Rattle.ot_plain.specs.Bounds.{bound_ty, bound_tys, bound_named, names_in_terms}
-use Rattle.ot_plain.specs.Naming.{names, numbers, name_of}
-use Rattle.ot_plain.specs.Renamed.{map_symbol}
-use Rattle.ot_plain.proofs.Line.{one_end}
+use Rattle.ot_logic.specs.Lists.{IsMember, IsSameSet}
+use Rattle.ot_logic.specs.Names.{Name}
+use Rattle.ot_logic.specs.Trees.{Ty, Tys, TyVar, TyOp, NoTys, MoreTys, Tm, Named}
+use Rattle.ot_logic.specs.Trees.{NVar, NConst, NApp, NAbs, Sequent, Symbol, OpSymbol}
+use Rattle.ot_logic.specs.Hol.{ops_ty, ops_all, symbols_ty, symbols_tm, symbols_all, symbols_of}
+use Rattle.ot_logic.specs.NamedTerms.{nameless}
+use Rattle.ot_logic.specs.Bounds.{bound_ty, bound_tys, bound_named, names_in_terms}
+use Rattle.ot_logic.specs.Naming.{names, numbers, name_of}
+use Rattle.ot_logic.specs.Renamed.{map_symbol}
+use Rattle.ot_logic.proofs.Line.{one_end}
 use Rattle.ot_laws.proofs.Sets.{same_set-append}
 use Rattle.ot_laws.proofs.Symbols.{symbols-abs}
 use Rattle.ot_laws.proofs.Tests.{tells_numbers}
@@ -30,7 +31,7 @@ use Rattle.ot_kernel.specs.State.{State, name_at, term_at, terms_at}
 use Rattle.ot_kernel.proofs.Checked.{over_symbols, symbols_real}
 use Rattle.ot_kernel.proofs.Later.{Later, Between, alphabet_at, over-terms, terms_within}
 use Rattle.ot_kernel.proofs.Namings.{bound_named-get}
-use Rattle.ot_plain.proofs.Members.{All-from_members, IsMember-cases, IsMember-map_back}
+use Rattle.ot_logic.proofs.Members.{All-from_members, IsMember-cases, IsMember-map_back}
 
 -- ---- the numbers of symbols
 mutual

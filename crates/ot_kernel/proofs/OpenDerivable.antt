@@ -3,9 +3,9 @@ use Rattle.std.specs.Option.{option_map}
 use Rattle.std.proofs.Common.{◌≡◌, ℕ, suc, List, [], ◌∷◌, refl, sym, ap, subst}
 use Rattle.std.specs.List.{AllByRecursion}
 use Rattle.ot_kernel.specs.Opening.{open_theorems}
-use Rattle.ot_plain.specs.Trees.{Alphabet, Ty, Tm, Free, Con, Bound, App, Abs, Sequent, Definition}
-use Rattle.ot_plain.specs.Hol.{fun_ty, bool_ty, HasType, open_at, equation}
-use Rattle.ot_plain.specs.Hol.{IsWithin, Derivable, Refl, AppThm, BetaConv}
+use Rattle.ot_logic.specs.Trees.{Alphabet, Ty, Tm, Free, Con, Bound, App, Abs, Sequent, Definition}
+use Rattle.ot_logic.specs.Hol.{fun_ty, bool_ty, HasType, open_at, equation}
+use Rattle.ot_logic.specs.Hol.{IsWithin, Derivable, Refl, AppThm, BetaConv}
 use Rattle.ot_laws.proofs.Tests.{Tells}
 use Rattle.ot_laws.proofs.Typing.{app-typed, type-more, within-typed}
 use Rattle.ot_laws.proofs.Equations.{equation-typed}

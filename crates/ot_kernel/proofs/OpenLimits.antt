@@ -3,10 +3,10 @@ use Rattle.std.specs.Prelude.{nat_le, ◌&&◌, suc}
 use Rattle.std.specs.List.{list_all}
 use Rattle.std.proofs.Common.{◌≡◌, ◌≤◌, true, [], ◌∷◌, Some, refl, ap, ◌∙◌, arith}
 use Rattle.std.proofs.lemmas.Bool.{leb-true, le-leb, and_parts, and_from}
-use Rattle.ot_plain.specs.Trees.{Alphabet, Ty, Tm, Free, Con, Bound, App, Abs}
-use Rattle.ot_plain.specs.Hol.{depth_limit, fun_ty, bool_ty, type_in, applied, HasType, depth_ty}
-use Rattle.ot_plain.specs.Hol.{depth_tm, is_shallow_ty, is_shallow_type, has_shallow_types}
-use Rattle.ot_plain.specs.Hol.{is_shallow, is_shallow_sequent, equation, type_theorems}
+use Rattle.ot_logic.specs.Trees.{Alphabet, Ty, Tm, Free, Con, Bound, App, Abs}
+use Rattle.ot_logic.specs.Hol.{depth_limit, fun_ty, bool_ty, type_in, applied, HasType, depth_ty}
+use Rattle.ot_logic.specs.Hol.{depth_tm, is_shallow_ty, is_shallow_type, has_shallow_types}
+use Rattle.ot_logic.specs.Hol.{is_shallow, is_shallow_sequent, equation, type_theorems}
 use Rattle.ot_laws.proofs.Tests.{Tells}
 use Rattle.ot_laws.proofs.Typing.{result_ty-fun, app-typed}
 use Rattle.ot_laws.proofs.Equations.{equation-typed}

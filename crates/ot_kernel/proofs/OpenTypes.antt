@@ -7,16 +7,16 @@ use Rattle.std.proofs.lemmas.Bool.{and_parts}
 use Rattle.std.proofs.lemmas.List.{append_assoc}
 use Rattle.std.proofs.lemmas.List.Elements.{All-nil, All-cons}
 use mathlib.Core.Path.{PathP}
-use Rattle.ot_plain.specs.Names.{Name}
-use Rattle.ot_plain.specs.Trees.{Alphabet, Ty, TyOp, Tm, Free, Con, App, Bound, Sequent, Definition}
-use Rattle.ot_plain.specs.Hol.{fun_ty, bool_ty, type_in, type_of, HasType, IsClosed}
-use Rattle.ot_plain.specs.Hol.{equation, sequent_of, tys_of_vars, type_theorems, theorems}
-use Rattle.ot_plain.specs.Hol.{theorems_at, is_shallow, is_shallow_sequent, IsNext}
-use Rattle.ot_plain.specs.Faults.{Fault, Nesting}
-use Rattle.ot_plain.specs.Naming.{names, numbers, first_names}
-use Rattle.ot_plain.specs.Rules.{within_limit}
-use Rattle.ot_plain.specs.Answers.{◌>>=◌, unless}
-use Rattle.ot_plain.proofs.TableLemmas.{get_or-Extends}
+use Rattle.ot_logic.specs.Names.{Name}
+use Rattle.ot_logic.specs.Trees.{Alphabet, Ty, TyOp, Tm, Free, Con, App, Bound, Sequent, Definition}
+use Rattle.ot_logic.specs.Hol.{fun_ty, bool_ty, type_in, type_of, HasType, IsClosed}
+use Rattle.ot_logic.specs.Hol.{equation, sequent_of, tys_of_vars, type_theorems, theorems}
+use Rattle.ot_logic.specs.Hol.{theorems_at, is_shallow, is_shallow_sequent, IsNext}
+use Rattle.ot_logic.specs.Faults.{Fault, Nesting}
+use Rattle.ot_logic.specs.Naming.{names, numbers, first_names}
+use Rattle.ot_logic.specs.Rules.{within_limit}
+use Rattle.ot_logic.specs.Answers.{◌>>=◌, unless}
+use Rattle.ot_logic.proofs.TableLemmas.{get_or-Extends}
 use Rattle.ot_laws.specs.Theorem.{IsTheorem}
 use Rattle.ot_laws.proofs.Equations.{equation-typed}
 use Rattle.ot_laws.proofs.Steps.{within_limit-ok}

@@ -8,17 +8,17 @@ use Rattle.std.proofs.lemmas.List.{append_assoc, get_or_append_left}
 use Rattle.std.proofs.lemmas.List.{append-nil}
 use Rattle.std.proofs.lemmas.List.Elements.{All-nil, All-cons}
 use mathlib.Core.Path.{PathP}
-use Rattle.ot_plain.specs.Names.{Name}
-use Rattle.ot_plain.specs.Lists.{IsSameSet}
-use Rattle.ot_plain.specs.Trees.{Alphabet, Tm, Bound, Sequent, Symbol, ConSymbol, OpSymbol, Definition, TyDef}
-use Rattle.ot_plain.specs.Hol.{symbols_tm, symbols_in, symbols_all, symbols_of, theorems}
-use Rattle.ot_plain.specs.Hol.{theorems_at, defined, used, is_shallow_sequent, IsNext}
-use Rattle.ot_plain.specs.Faults.{Fault, Nesting}
-use Rattle.ot_plain.specs.Naming.{names, numbers, name_of}
-use Rattle.ot_plain.specs.Renamed.{map_symbol}
-use Rattle.ot_plain.specs.Answers.{◌>>=◌, unless}
-use Rattle.ot_plain.proofs.Line.{over_sequent}
-use Rattle.ot_plain.proofs.Naming.{naming}
+use Rattle.ot_logic.specs.Names.{Name}
+use Rattle.ot_logic.specs.Lists.{IsSameSet}
+use Rattle.ot_logic.specs.Trees.{Alphabet, Tm, Bound, Sequent, Symbol, ConSymbol, OpSymbol, Definition, TyDef}
+use Rattle.ot_logic.specs.Hol.{symbols_tm, symbols_in, symbols_all, symbols_of, theorems}
+use Rattle.ot_logic.specs.Hol.{theorems_at, defined, used, is_shallow_sequent, IsNext}
+use Rattle.ot_logic.specs.Faults.{Fault, Nesting}
+use Rattle.ot_logic.specs.Naming.{names, numbers, name_of}
+use Rattle.ot_logic.specs.Renamed.{map_symbol}
+use Rattle.ot_logic.specs.Answers.{◌>>=◌, unless}
+use Rattle.ot_logic.proofs.Line.{over_sequent}
+use Rattle.ot_logic.proofs.Naming.{naming}
 use Rattle.ot_laws.specs.Theorem.{IsTheorem}
 use Rattle.ot_laws.proofs.Definitions.{no_hyps-theorems}
 use Rattle.ot_laws.proofs.Tests.{tells_names}

@@ -7,14 +7,14 @@ use Rattle.std.proofs.Common.{take, drop, refl, sym, ap, subst, ◌∙◌, ◌�
 use Rattle.std.proofs.lemmas.Option.{slice_get_within, slice_get-get_or, same_Some, none-some}
 use Rattle.std.proofs.lemmas.Bool.{cases_lt}
 use Rattle.std.proofs.lemmas.List.Elements.{All-head, All-tail}
-use Rattle.ot_plain.specs.Table.{Extends}
-use Rattle.ot_plain.proofs.InternedLemmas.{slice_get-last}
-use Rattle.ot_plain.proofs.TableLemmas.{Extends-append}
+use Rattle.ot_logic.specs.Table.{Extends}
+use Rattle.ot_logic.proofs.InternedLemmas.{slice_get-last}
+use Rattle.ot_logic.proofs.TableLemmas.{Extends-append}
 use Rattle.ot_kernel.specs.declared.theorem.Theorem.{Theorem}
 use Rattle.ot_kernel.specs.Places.{ArePlaces, IsPlaced}
 use Rattle.ot_kernel.specs.Spelled.{IsInside}
-use Rattle.ot_plain.proofs.Results.{none_from, some_from}
-use Rattle.ot_plain.proofs.Elements.{All-slice_get}
+use Rattle.ot_logic.proofs.Results.{none_from, some_from}
+use Rattle.ot_logic.proofs.Elements.{All-slice_get}
 
 module _ {X : Type 0} where
   -- an entry of the longer table at an old number

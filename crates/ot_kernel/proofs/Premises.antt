@@ -1,10 +1,10 @@
 -- The parts of a type operator's premise.
 use Rattle.std.proofs.Common.{◌≡◌, ℕ, ◌<◌, List, [], length, slice_get, Some, sym, ap, subst, ◌∙◌}
 use Rattle.std.proofs.lemmas.Option.{same_Some, get_or_from_slice_get}
-use Rattle.ot_plain.specs.Trees.{TyVar, TyOp, Tm, App, NConst, NApp}
-use Rattle.ot_plain.specs.Hol.{fun_ty, bool_ty, type_in, HasType, IsClosed, nameless}
-use Rattle.ot_plain.specs.Hol.{named_type, tys_of_vars, theorems_at, type_theorems}
-use Rattle.ot_plain.specs.Naming.{numbers}
+use Rattle.ot_logic.specs.Trees.{TyVar, TyOp, Tm, App, NConst, NApp}
+use Rattle.ot_logic.specs.Hol.{fun_ty, bool_ty, type_in, HasType, IsClosed, tys_of_vars, theorems_at, type_theorems}
+use Rattle.ot_logic.specs.NamedTerms.{nameless, named_type}
+use Rattle.ot_logic.specs.Naming.{numbers}
 use Rattle.ot_laws.proofs.Tests.{tells_numbers}
 use Rattle.ot_laws.proofs.Typing.{applied-some, type_of-is, type-nameless}
 use Rattle.ot_type.specs.TypeTable.{type_at}

@@ -6,12 +6,13 @@ use Rattle.std.proofs.Common.{is_some, add-one, Some, refl, sym, ap, subst, ◌�
 use Rattle.std.proofs.Math.Seq.{drop-cons}
 use Rattle.std.proofs.lemmas.List.{map-append, take_more}
 use Rattle.std.proofs.lemmas.List.Elements.{All-nil}
-use Rattle.ot_plain.specs.Lists.{IsMember, AreDistinct}
-use Rattle.ot_plain.specs.Names.{Name}
-use Rattle.ot_plain.specs.Trees.{Variable, Tm, Con, Named, NConst}
-use Rattle.ot_plain.specs.Hol.{nameless, is_shallow, subst_tm, constants_for, sequent_of}
-use Rattle.ot_plain.specs.Naming.{numbers}
-use Rattle.ot_plain.proofs.TableLemmas.{Extends-refl}
+use Rattle.ot_logic.specs.Lists.{IsMember, AreDistinct}
+use Rattle.ot_logic.specs.Names.{Name}
+use Rattle.ot_logic.specs.Trees.{Variable, Tm, Con, Named, NConst}
+use Rattle.ot_logic.specs.Hol.{is_shallow, subst_tm, constants_for, sequent_of}
+use Rattle.ot_logic.specs.NamedTerms.{nameless}
+use Rattle.ot_logic.specs.Naming.{numbers}
+use Rattle.ot_logic.proofs.TableLemmas.{Extends-refl}
 use Rattle.ot_laws.specs.Walk.{nameless_map}
 use Rattle.ot_laws.proofs.Tests.{tells_numbers}
 use Rattle.ot_type.specs.TypeTable.{type_at}
@@ -38,7 +39,7 @@ use Rattle.ot_kernel.proofs.Namings.{map-drop}
 use Rattle.ot_kernel.proofs.NewTerms.{new_at}
 use Rattle.ot_kernel.proofs.NewTypes.{name-below, bound-below}
 use Rattle.ot_kernel.proofs.Leaves.{shallow-constants}
-use Rattle.ot_plain.proofs.Members.{IsMember-get_or, IsMember-map}
+use Rattle.ot_logic.proofs.Members.{IsMember-get_or, IsMember-map}
 
 -- an element is not among those before it, where all have images of their own
 distinct-before : {X Y : Type 0} (f : X → Y) (xs : List X) (k : ℕ) (x : X) → AreDistinct (map f xs) → k < length xs

@@ -1,10 +1,11 @@
 -- The two theorems of a type as they are made over the table: there and back again.
 use Rattle.std.proofs.Common.{◌≡◌, ℕ, ◌<◌, [], length, slice_get, Some, Result, Ok, refl, sym, ap, subst, ◌∙◌, arith}
-use Rattle.ot_plain.specs.Trees.{Variable, Tm, Free, Con, App, NVar, NApp, Sequent}
-use Rattle.ot_plain.specs.Faults.{Fault, Nesting}
-use Rattle.ot_plain.specs.Hol.{fun_ty, bool_ty, type_in, type_of, HasType, nameless, is_shallow, equation, sequent_of}
-use Rattle.ot_plain.specs.Naming.{numbers}
-use Rattle.ot_plain.specs.Rules.{within_limit, app_rule}
+use Rattle.ot_logic.specs.Trees.{Variable, Tm, Free, Con, App, NVar, NApp, Sequent}
+use Rattle.ot_logic.specs.Faults.{Fault, Nesting}
+use Rattle.ot_logic.specs.Hol.{fun_ty, bool_ty, type_in, type_of, HasType, is_shallow, equation, sequent_of}
+use Rattle.ot_logic.specs.NamedTerms.{nameless}
+use Rattle.ot_logic.specs.Naming.{numbers}
+use Rattle.ot_logic.specs.Rules.{within_limit, app_rule}
 use Rattle.ot_laws.proofs.Equations.{equation-typed}
 use Rattle.ot_laws.proofs.Steps.{app_rule-ok, limit-ok}
 use Rattle.ot_laws.proofs.Tests.{tells_numbers}

@@ -5,13 +5,14 @@ use Rattle.std.proofs.Common.{◌≡◌, ℕ, ◌+◌, ◌<◌, false, List, [],
 use Rattle.std.proofs.Common.{drop, append_assoc, refl, sym, ap, ◌∙◌, subst, inl, arith}
 use Rattle.std.proofs.lemmas.List.{map-append}
 use Rattle.std.proofs.lemmas.List.Elements.{All-push}
-use Rattle.ot_plain.specs.Lists.{IsMember}
-use Rattle.ot_plain.specs.Names.{Name}
-use Rattle.ot_plain.specs.Trees.{Tm}
-use Rattle.ot_plain.specs.Faults.{Nesting}
-use Rattle.ot_plain.specs.Hol.{nameless, is_shallow, once_each}
-use Rattle.ot_plain.specs.Naming.{numbers, IsNameTable}
-use Rattle.ot_plain.specs.Rules.{subst_rule}
+use Rattle.ot_logic.specs.Lists.{IsMember}
+use Rattle.ot_logic.specs.Names.{Name}
+use Rattle.ot_logic.specs.Trees.{Tm}
+use Rattle.ot_logic.specs.Faults.{Nesting}
+use Rattle.ot_logic.specs.Hol.{is_shallow, once_each}
+use Rattle.ot_logic.specs.NamedTerms.{nameless}
+use Rattle.ot_logic.specs.Naming.{numbers, IsNameTable}
+use Rattle.ot_logic.specs.Rules.{subst_rule}
 use Rattle.ot_laws.proofs.Hypotheses.{IsMember-once_each}
 use Rattle.ot_laws.proofs.Tests.{tells_numbers}
 use Rattle.ot_term.specs.Term.{TermTable}
@@ -31,7 +32,7 @@ use Rattle.ot_kernel.proofs.EquationRules.{refuses_rule, memory_refuses}
 use Rattle.ot_kernel.proofs.Equating.{tms_at-Grows}
 use Rattle.ot_kernel.proofs.ByNumber.{within-derives, deep_conclusion, deep_hypotheses, deep_member}
 use Rattle.ot_kernel.proofs.Namings.{map-drop}
-use Rattle.ot_plain.proofs.Members.{IsMember-right}
+use Rattle.ot_logic.proofs.Members.{IsMember-right}
 
 -- what holds of the images of the terms before the k-th
 pub record AreImages (ns ms : List Name) (t u : TermTable) (s : Substitution) (ids : List ℕ) (k : ℕ)

@@ -9,17 +9,18 @@ use Rattle.std.proofs.Math.Seq.{get_or-append_seam}
 use Rattle.std.proofs.lemmas.List.Elements.{All-push}
 use Rattle.std.proofs.lemmas.List.Quantifiers.{all_pairs_push}
 use Rattle.std.proofs.lemmas.List.{length-map}
-use Rattle.ot_plain.specs.Lists.{AreDistinct}
-use Rattle.ot_plain.specs.Names.{Name}
-use Rattle.ot_plain.specs.Trees.{Ty, Tm, Bound, Sequent, Definition}
-use Rattle.ot_plain.specs.Faults.{Fault, NotBool}
-use Rattle.ot_plain.specs.Hol.{bool_ty, nameless, once_each, same_sequent, HasType, IsSequent}
-use Rattle.ot_plain.specs.Naming.{names, numbers, name_of}
-use Rattle.ot_plain.specs.Renamed.{map_named}
-use Rattle.ot_plain.specs.Rules.{has_type}
-use Rattle.ot_plain.proofs.InternedLemmas.{slice_get-last}
-use Rattle.ot_plain.specs.Table.{Extends}
-use Rattle.ot_plain.proofs.TableLemmas.{Extends-refl, Extends-append}
+use Rattle.ot_logic.specs.Lists.{AreDistinct}
+use Rattle.ot_logic.specs.Names.{Name}
+use Rattle.ot_logic.specs.Trees.{Ty, Tm, Bound, Sequent, Definition}
+use Rattle.ot_logic.specs.Faults.{Fault, NotBool}
+use Rattle.ot_logic.specs.Hol.{bool_ty, once_each, same_sequent, HasType, IsSequent}
+use Rattle.ot_logic.specs.NamedTerms.{nameless}
+use Rattle.ot_logic.specs.Naming.{names, numbers, name_of}
+use Rattle.ot_logic.specs.Renamed.{map_named}
+use Rattle.ot_logic.specs.Rules.{has_type}
+use Rattle.ot_logic.proofs.InternedLemmas.{slice_get-last}
+use Rattle.ot_logic.specs.Table.{Extends}
+use Rattle.ot_logic.proofs.TableLemmas.{Extends-refl, Extends-append}
 use Rattle.ot_term.specs.Term.{TermTable}
 use Rattle.ot_laws.specs.Theorem.{IsTheorem}
 use Rattle.ot_laws.proofs.Grown.{grown-accepted}

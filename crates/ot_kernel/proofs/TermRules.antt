@@ -2,10 +2,11 @@
 use Rattle.std.specs.Prelude.{◌≢◌, Ok, Err}
 use Rattle.std.proofs.Common.{◌≡◌, ◌<◌, ◌≤◌, true, false, Option, Some, None, refl, sym, ap, ◌∙◌, inl, inr}
 use Rattle.std.proofs.lemmas.Bool.{le-leb, lt-leb}
-use Rattle.ot_plain.specs.Trees.{Alphabet, Ty, Tys, TyOp, Variable, Named, NApp, NAbs}
-use Rattle.ot_plain.specs.Hol.{fun_ty, as_fun_ty, depth_ty, depth_limit, is_shallow, nameless, named_type}
-use Rattle.ot_plain.specs.Faults.{NotFunction, ArgumentType, Nesting}
-use Rattle.ot_plain.specs.Rules.{has_type, op_rule, app_rule, abs_rule}
+use Rattle.ot_logic.specs.Trees.{Alphabet, Ty, Tys, TyOp, Variable, Named, NApp, NAbs}
+use Rattle.ot_logic.specs.Hol.{fun_ty, as_fun_ty, depth_ty, depth_limit, is_shallow}
+use Rattle.ot_logic.specs.NamedTerms.{nameless, named_type}
+use Rattle.ot_logic.specs.Faults.{NotFunction, ArgumentType, Nesting}
+use Rattle.ot_logic.specs.Rules.{has_type, op_rule, app_rule, abs_rule}
 use Rattle.ot_laws.proofs.Tests.{Tells, has_type-is, cases_of}
 use Rattle.ot_laws.proofs.Typing.{as_fun_ty-some, as_fun_ty-fun, applied-some, type-nameless}
 

@@ -5,16 +5,17 @@ use Rattle.std.proofs.Common.{◌≡◌, ℕ, ◌<◌, List, [], ◌∷◌, ◌+
 use Rattle.std.proofs.Common.{refl, sym, ap, ◌∙◌, subst, arith, length-append}
 use Rattle.std.proofs.lemmas.List.{get_or_append_left, length-map}
 use Rattle.std.proofs.lemmas.List.Elements.{All-head, All-tail, All-push}
-use Rattle.ot_plain.specs.Names.{Name}
-use Rattle.ot_plain.specs.Faults.{Fault}
-use Rattle.ot_plain.specs.Trees.{Bound, Sequent}
-use Rattle.ot_plain.specs.Hol.{nameless, same_tm, same_sequent}
-use Rattle.ot_plain.specs.Naming.{names, numbers, name_of}
-use Rattle.ot_plain.specs.Renamed.{map_tm, map_named, map_sequent}
-use Rattle.ot_plain.proofs.Lift.{map-nameless}
-use Rattle.ot_plain.proofs.Naming.{naming, lettering}
-use Rattle.ot_plain.specs.Table.{Extends}
-use Rattle.ot_plain.proofs.TableLemmas.{Extends-refl, Extends-trans, Extends-append}
+use Rattle.ot_logic.specs.Names.{Name}
+use Rattle.ot_logic.specs.Faults.{Fault}
+use Rattle.ot_logic.specs.Trees.{Bound, Sequent}
+use Rattle.ot_logic.specs.Hol.{same_tm, same_sequent}
+use Rattle.ot_logic.specs.NamedTerms.{nameless}
+use Rattle.ot_logic.specs.Naming.{names, numbers, name_of}
+use Rattle.ot_logic.specs.Renamed.{map_tm, map_named, map_sequent}
+use Rattle.ot_logic.proofs.Lift.{map-nameless}
+use Rattle.ot_logic.proofs.Naming.{naming, lettering}
+use Rattle.ot_logic.specs.Table.{Extends}
+use Rattle.ot_logic.proofs.TableLemmas.{Extends-refl, Extends-trans, Extends-append}
 use Rattle.ot_term.specs.Term.{TermTable}
 use Rattle.ot_term.specs.TermTable as terms
 use Rattle.ot_laws.specs.Theorem.{IsTheorem}

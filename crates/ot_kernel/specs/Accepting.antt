@@ -1,12 +1,12 @@
 -- A definition that may be next, as the next of a kernel's definitions.
 use Rattle.std.specs.Prelude.{◌≡◌, ℕ, ◌+◌, ◌<◌, List, [], ◌∷◌, ◌++◌, map, length}
 use Rattle.std.specs.List.{All}
-use Rattle.ot_plain.specs.Names.{Name}
-use Rattle.ot_plain.specs.Lists.{IsSameSet}
-use Rattle.ot_plain.specs.Trees.{Symbol, Sequent, Definition}
-use Rattle.ot_plain.specs.Hol.{IsNext, theorems, defined, used}
-use Rattle.ot_plain.specs.Naming.{names}
-use Rattle.ot_plain.specs.Renamed.{map_symbol}
+use Rattle.ot_logic.specs.Names.{Name}
+use Rattle.ot_logic.specs.Lists.{IsSameSet}
+use Rattle.ot_logic.specs.Trees.{Symbol, Sequent, Definition}
+use Rattle.ot_logic.specs.Hol.{IsNext, theorems, defined, used}
+use Rattle.ot_logic.specs.Naming.{names}
+use Rattle.ot_logic.specs.Renamed.{map_symbol}
 use Rattle.ot_laws.specs.Theorem.{IsTheorem}
 use Rattle.ot_kernel.specs.declared.theorem.Theorem.{Theorem}
 use Rattle.ot_kernel.specs.declared.definition.Definition as code

@@ -1,13 +1,13 @@
 -- What the kernel's calls answer, against the rules of the logic.
 use Rattle.std.specs.Prelude.{◌≡◌, ◌≢◌, ◌<◌, ℕ, suc, [], ◌∷◌, ◌++◌, length, Result, Ok, Err, Option, Some, None}
-use Rattle.ot_plain.specs.Names.{Name}
-use Rattle.ot_plain.specs.Trees.{Ty, Tm, Sequent, Definition}
-use Rattle.ot_plain.specs.Hol.{theorems}
-use Rattle.ot_plain.specs.Naming.{names}
-use Rattle.ot_plain.specs.Faults.{Fault, NotFunction, ArgumentType, NotBool, NotEquation, NotAlphaEqual}
-use Rattle.ot_plain.specs.Faults.{VarFreeInHyps, NotRedex, Nesting, Primitive, AlreadyDefined, SymbolInUse, NotClosed}
-use Rattle.ot_plain.specs.Faults.{TypeVarEscapes, BadDefinitionList, HypothesesPresent, NotApplication, BadTypeVars}
-use Rattle.ot_plain.specs.Renamed.{map_symbol}
+use Rattle.ot_logic.specs.Names.{Name}
+use Rattle.ot_logic.specs.Trees.{Ty, Tm, Sequent, Definition}
+use Rattle.ot_logic.specs.Hol.{theorems}
+use Rattle.ot_logic.specs.Naming.{names}
+use Rattle.ot_logic.specs.Faults.{Fault, NotFunction, ArgumentType, NotBool, NotEquation, NotAlphaEqual}
+use Rattle.ot_logic.specs.Faults.{VarFreeInHyps, NotRedex, Nesting, Primitive, AlreadyDefined, SymbolInUse, NotClosed}
+use Rattle.ot_logic.specs.Faults.{TypeVarEscapes, BadDefinitionList, HypothesesPresent, NotApplication, BadTypeVars}
+use Rattle.ot_logic.specs.Renamed.{map_symbol}
 use Rattle.ot_type.specs.declared.fault.TableFault.{TableFault}
 use Rattle.ot_type.specs.declared.fault.TableFault.TheVariants as types
 use Rattle.ot_term.specs.declared.term.TermFault.{TermFault}

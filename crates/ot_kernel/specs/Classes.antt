@@ -1,9 +1,9 @@
 -- Terms found by the numbers of their alpha classes.
 use Rattle.std.specs.Prelude.{◌≡◌, ℕ, ◌||◌, nat_eq, List, slice_get, Some}
 use Rattle.std.specs.List.{list_any}
-use Rattle.ot_plain.specs.Trees.{Tm}
-use Rattle.ot_plain.specs.Hol.{same_tm, is_in}
-use Rattle.ot_plain.specs.Naming.{numbers}
+use Rattle.ot_logic.specs.Trees.{Tm}
+use Rattle.ot_logic.specs.Hol.{same_tm, is_in}
+use Rattle.ot_logic.specs.Naming.{numbers}
 use Rattle.ot_term.specs.Term.{TermTable}
 use Rattle.ot_kernel.specs.Numbered.{tm_at}
 

@@ -1,10 +1,10 @@
 -- The rules by which definitions are accepted, and their theorems.
 use Rattle.std.specs.Prelude.{List, [], ◌∷◌, Result, Ok}
 use Rattle.std.specs.List.{flat_map}
-use Rattle.ot_plain.specs.Trees.{Alphabet, Variable, Tm, Sequent, Symbol, Definition, ConDef, ListDef, TyDef}
-use Rattle.ot_plain.specs.Hol.{is_shallow_sequent, theorems, defined, used}
-use Rattle.ot_plain.specs.Faults.{Fault, Nesting}
-use Rattle.ot_plain.specs.Answers.{◌>>=◌, unless}
+use Rattle.ot_logic.specs.Trees.{Alphabet, Variable, Tm, Sequent, Symbol, Definition, ConDef, ListDef, TyDef}
+use Rattle.ot_logic.specs.Hol.{is_shallow_sequent, theorems, defined, used}
+use Rattle.ot_logic.specs.Faults.{Fault, Nesting}
+use Rattle.ot_logic.specs.Answers.{◌>>=◌, unless}
 use Rattle.std.specs.List.{list_all}
 use Rattle.ot_laws.specs.Conditions.{checked_const, checked_list, checked_type}
 

@@ -1,12 +1,12 @@
 -- Definitions by number, as the definitions that they stand for.
 use Rattle.std.specs.Prelude.{◌≡◌, ℕ, ◌<◌, List as Items, [], ◌∷◌, map, length}
 use Rattle.std.specs.List.{All}
-use Rattle.ot_plain.specs.Names.{Name}
-use Rattle.ot_plain.specs.Trees.{Variable, Tm, App, Sequent, Symbol, ConSymbol}
-use Rattle.ot_plain.specs.Trees.{OpSymbol, Definition, ConDef, ListDef, TyDef}
-use Rattle.ot_plain.specs.Hol.{theorems}
-use Rattle.ot_plain.specs.Naming.{names, name_of}
-use Rattle.ot_plain.specs.Renamed.{map_symbol}
+use Rattle.ot_logic.specs.Names.{Name}
+use Rattle.ot_logic.specs.Trees.{Variable, Tm, App, Sequent, Symbol, ConSymbol}
+use Rattle.ot_logic.specs.Trees.{OpSymbol, Definition, ConDef, ListDef, TyDef}
+use Rattle.ot_logic.specs.Hol.{theorems}
+use Rattle.ot_logic.specs.Naming.{names, name_of}
+use Rattle.ot_logic.specs.Renamed.{map_symbol}
 use Rattle.ot_laws.specs.Next.{AreSymbolsOf}
 use Rattle.ot_define.specs.Signature.{Symbols}
 use Rattle.ot_term.specs.declared.term.VarKey.{VarKey}

@@ -1,10 +1,10 @@
 -- Terms that rules make over the table, and equations by the numbers of their sides.
 use Rattle.std.specs.Prelude.{◌≡◌, ℕ, ◌<◌, true, if◌then◌else◌, List, length, Some, Result, Ok, Err}
-use Rattle.ot_plain.specs.Trees.{Alphabet, Ty, Tm, Named, Sequent}
-use Rattle.ot_plain.specs.Faults.{Fault, Nesting}
-use Rattle.ot_plain.specs.Hol.{HasType, type_of, equation, as_equation, is_shallow, union}
-use Rattle.ot_plain.specs.Naming.{numbers}
-use Rattle.ot_plain.specs.Rules.{trans_rule}
+use Rattle.ot_logic.specs.Trees.{Alphabet, Ty, Tm, Named, Sequent}
+use Rattle.ot_logic.specs.Faults.{Fault, Nesting}
+use Rattle.ot_logic.specs.Hol.{HasType, type_of, equation, as_equation, is_shallow, union}
+use Rattle.ot_logic.specs.Naming.{numbers}
+use Rattle.ot_logic.specs.Rules.{trans_rule}
 use Rattle.ot_kernel.specs.declared.theorem.Theorem.{Theorem}
 use Rattle.ot_kernel.specs.declared.fault.RuleFault.{RuleFault}
 use Rattle.ot_kernel.specs.Answers.{RefusesRule}

@@ -1,9 +1,9 @@
 -- Terms and sequents by number, as nameless trees over numbers of names.
 use Rattle.std.specs.Prelude.{◌≡◌, ℕ, suc, max, List, map, length, Result, Ok, Err}
-use Rattle.ot_plain.specs.Trees.{Tm, Named, Sequent}
-use Rattle.ot_plain.specs.Faults.{Fault}
-use Rattle.ot_plain.specs.Hol.{nameless}
-use Rattle.ot_plain.specs.Naming.{numbers}
+use Rattle.ot_logic.specs.Trees.{Tm, Named, Sequent}
+use Rattle.ot_logic.specs.Faults.{Fault}
+use Rattle.ot_logic.specs.NamedTerms.{nameless}
+use Rattle.ot_logic.specs.Naming.{numbers}
 use Rattle.ot_term.specs.Term.{TermTable}
 use Rattle.ot_term.specs.TermTable.{term_at, IsGrownTo}
 use Rattle.ot_kernel.specs.declared.theorem.Theorem.{Theorem}

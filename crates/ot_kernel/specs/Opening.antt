@@ -1,12 +1,12 @@
 -- The theorems of a type operator with variables in the place of binders, as articles of version 5 have them.
 use Rattle.std.specs.Prelude.{codes, ◌≡◌, suc, List, [], ◌∷◌, ◌++◌, length, Result, Ok, Err}
-use Rattle.ot_plain.specs.Names.{Name}
-use Rattle.ot_plain.specs.Naming.{names}
-use Rattle.ot_plain.specs.Trees.{Alphabet, Ty, TyOp, Variable, Tm, Free, Con, Bound}
-use Rattle.ot_plain.specs.Trees.{App, Abs, Sequent, Definition, ConDef, ListDef, TyDef}
-use Rattle.ot_plain.specs.Hol.{fun_ty, bool_ty, type_of, equation, is_shallow, sequent_of, tys_of_vars, theorems}
-use Rattle.ot_plain.specs.Faults.{Nesting}
-use Rattle.ot_plain.specs.Answers.{◌>>=◌, unless}
+use Rattle.ot_logic.specs.Names.{Name}
+use Rattle.ot_logic.specs.Naming.{names}
+use Rattle.ot_logic.specs.Trees.{Alphabet, Ty, TyOp, Variable, Tm, Free, Con, Bound}
+use Rattle.ot_logic.specs.Trees.{App, Abs, Sequent, Definition, ConDef, ListDef, TyDef}
+use Rattle.ot_logic.specs.Hol.{fun_ty, bool_ty, type_of, equation, is_shallow, sequent_of, tys_of_vars, theorems}
+use Rattle.ot_logic.specs.Faults.{Nesting}
+use Rattle.ot_logic.specs.Answers.{◌>>=◌, unless}
 use Rattle.ot_kernel.specs.Defining.{Defining, type_definition}
 use Rattle.ot_kernel.specs.State.{State, name_at, SameTheorems}
 use Rattle.ot_kernel.specs.Answers.{RefusesBy}

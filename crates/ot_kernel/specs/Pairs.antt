@@ -1,10 +1,10 @@
 -- What a substitution by number stands for in a kernel, pair by pair.
 use Rattle.std.specs.Prelude.{ℕ, ◌<◌, List, [], ◌∷◌, ◌++◌, map, length, if◌then◌else◌}
 use Rattle.std.specs.List.{All, list_any}
-use Rattle.ot_plain.specs.Names.{Name}
-use Rattle.ot_plain.specs.Trees.{Ty, Variable, Tm}
-use Rattle.ot_plain.specs.Hol.{TypeMap, TermMap, same_var, IsTyped}
-use Rattle.ot_plain.specs.Naming.{names}
+use Rattle.ot_logic.specs.Names.{Name}
+use Rattle.ot_logic.specs.Trees.{Ty, Variable, Tm}
+use Rattle.ot_logic.specs.Hol.{TypeMap, TermMap, same_var, IsTyped}
+use Rattle.ot_logic.specs.Naming.{names}
 use Rattle.ot_subst.specs.Substitution.{Substitution}
 use Rattle.ot_kernel.specs.State.{State, name_at, type_at, variable_at, term_at}
 

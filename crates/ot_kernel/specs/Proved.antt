@@ -1,12 +1,12 @@
 -- The theorems of definitions as they are made over the table.
 use Rattle.std.specs.Prelude.{◌≡◌, ℕ, suc, ◌<◌, max, true, List, [], ◌∷◌, length, Result, Ok, Err}
 use Rattle.std.specs.List.{list_all}
-use Rattle.ot_plain.specs.Trees.{Alphabet, Ty, Variable, Tm, Free, App, Abs, Named, Sequent}
-use Rattle.ot_plain.specs.Faults.{Fault, Nesting}
-use Rattle.ot_plain.specs.Answers.{unless}
-use Rattle.ot_plain.specs.Hol.{fun_ty, bool_ty, HasType, close, equation}
-use Rattle.ot_plain.specs.Hol.{sequent_of, is_shallow, is_shallow_sequent, IsClosed}
-use Rattle.ot_plain.specs.Naming.{numbers}
+use Rattle.ot_logic.specs.Trees.{Alphabet, Ty, Variable, Tm, Free, App, Abs, Named, Sequent}
+use Rattle.ot_logic.specs.Faults.{Fault, Nesting}
+use Rattle.ot_logic.specs.Answers.{unless}
+use Rattle.ot_logic.specs.Hol.{fun_ty, bool_ty, HasType, close, equation}
+use Rattle.ot_logic.specs.Hol.{sequent_of, is_shallow, is_shallow_sequent, IsClosed}
+use Rattle.ot_logic.specs.Naming.{numbers}
 use Rattle.ot_type.specs.TypeTable.{type_at}
 use Rattle.ot_term.specs.Term.{TermTable}
 use Rattle.ot_kernel.specs.declared.theorem.Theorem.{Theorem}

@@ -1,12 +1,12 @@
 -- The real state of a kernel's tables, and what the tables keep.
 use Rattle.std.specs.Prelude.{◌≡◌, ℕ, ◌<◌, ◌≤◌, List, [], map, length, slice_index_or}
 use Rattle.std.specs.List.{All}
-use Rattle.ot_plain.specs.Names.{Name}
-use Rattle.ot_plain.specs.Trees.{Named, Sequent, Bound}
-use Rattle.ot_plain.specs.Hol.{nameless}
-use Rattle.ot_plain.specs.Renamed.{map_ty, map_named}
-use Rattle.ot_plain.specs.Naming.{names, name_of, IsNameTable}
-use Rattle.ot_plain.specs.Bounds.{names_in, names_in_terms}
+use Rattle.ot_logic.specs.Names.{Name}
+use Rattle.ot_logic.specs.Trees.{Named, Sequent, Bound}
+use Rattle.ot_logic.specs.NamedTerms.{nameless}
+use Rattle.ot_logic.specs.Renamed.{map_ty, map_named}
+use Rattle.ot_logic.specs.Naming.{names, name_of, IsNameTable}
+use Rattle.ot_logic.specs.Bounds.{names_in, names_in_terms}
 use Rattle.ot_term.specs.Term.{TermTable}
 use Rattle.ot_term.specs.TermTable.{IsTermTable}
 use Rattle.ot_kernel.specs.declared.theorem.Theorem.{Theorem}

@@ -2,13 +2,14 @@
 use Rattle.std.specs.Prelude.{◌≡◌, ℕ, false, List, [], ◌∷◌, map, slice_index_or, AllPairs, refl}
 use Rattle.std.specs.List.{All}
 use Rattle.std.specs.Coded.{Coded, code_by, coded×, coded_list, coded_ℕ}
-use Rattle.ot_plain.specs.Names.{Name}
-use Rattle.ot_plain.specs.Trees.{Ty, Tys, TyVar, NoTys, MoreTys, Variable}
-use Rattle.ot_plain.specs.Trees.{Named, NConst, Tm, Bound, Sequent, Definition}
-use Rattle.ot_plain.specs.Hol.{nameless, same_sequent, IsSequent, Accepted}
-use Rattle.ot_plain.specs.Naming.{names, IsNameTable}
-use Rattle.ot_plain.specs.Codes.{coded_name, coded_ty, coded_named, coded_sequent, coded_definition}
-use Rattle.ot_plain.specs.Table.{Extends}
+use Rattle.ot_logic.specs.Names.{Name}
+use Rattle.ot_logic.specs.Trees.{Ty, Tys, TyVar, NoTys, MoreTys, Variable}
+use Rattle.ot_logic.specs.Trees.{Named, NConst, Tm, Bound, Sequent, Definition}
+use Rattle.ot_logic.specs.Hol.{same_sequent, IsSequent, Accepted}
+use Rattle.ot_logic.specs.NamedTerms.{nameless}
+use Rattle.ot_logic.specs.Naming.{names, IsNameTable}
+use Rattle.ot_logic.specs.Codes.{coded_name, coded_ty, coded_named, coded_sequent, coded_definition}
+use Rattle.ot_logic.specs.Table.{Extends}
 use Rattle.ot_laws.specs.Theorem.{IsTheorem}
 use Rattle.ot_term.specs.declared.term.VarKey.{VarKey}
 

@@ -1,10 +1,10 @@
 -- A sequent that becomes an assumption.
 use Rattle.std.specs.Prelude.{◌≡◌, ℕ, ◌<◌, [], ◌∷◌, ◌++◌, length}
-use Rattle.ot_plain.specs.Lists.{AreDistinct}
-use Rattle.ot_plain.specs.Names.{Name}
-use Rattle.ot_plain.specs.Trees.{Sequent}
-use Rattle.ot_plain.specs.Hol.{IsSequent}
-use Rattle.ot_plain.specs.Naming.{names}
+use Rattle.ot_logic.specs.Lists.{AreDistinct}
+use Rattle.ot_logic.specs.Names.{Name}
+use Rattle.ot_logic.specs.Trees.{Sequent}
+use Rattle.ot_logic.specs.Hol.{IsSequent}
+use Rattle.ot_logic.specs.Naming.{names}
 use Rattle.ot_kernel.specs.declared.theorem.Theorem.{Theorem}
 use Rattle.ot_kernel.specs.State.{State, theorem_at, Keeps}
 use Rattle.ot_kernel.specs.Spelled.{sequent_of, IsInside}

@@ -3,9 +3,9 @@ ghost use Rattle.std.specs.Prelude.{◌≡◌, ◌<◌, ◌≤◌, map, length, 
 ghost use Rattle.std.specs.Prelude.{false, IfOk, IfErr, IfSome, OnOk, OnErr};
 ghost use Rattle.std.specs.List.{All, list_all};
 ghost use Rattle.std.specs.Option.{option_map};
-ghost use Rattle.ot_plain.specs.Hol.{same_tm, same_sequent};
-ghost use Rattle.ot_plain.specs.Naming.{names};
-ghost use Rattle.ot_plain.specs.Rules.{has_type};
+ghost use Rattle.ot_logic.specs.Hol.{same_tm, same_sequent};
+ghost use Rattle.ot_logic.specs.Naming.{names};
+ghost use Rattle.ot_logic.specs.Rules.{has_type};
 ghost use Rattle.ot_kernel.specs.State.{type_at, term_at, terms_at, theorem_at, Keeps};
 ghost use Rattle.ot_kernel.specs.Spelled.{sequent_of, IsInside};
 ghost use Rattle.ot_kernel.specs.Axioms.{axiom_rule};
@@ -16,7 +16,7 @@ use crate::fault::RuleFault;
 use crate::hypotheses::once_each;
 use crate::kernel::Kernel;
 use crate::theorem::{Theorem, ThmId};
-use ot_plain::Memory;
+use ot_logic::Memory;
 use ot_term::TermId;
 use ot_type::TypeId;
 

@@ -1,12 +1,12 @@
 //! The theorems of definitions, over the tables of names and terms.
 ghost use Rattle.std.specs.Prelude.{◌≡◌, ℕ, ◌<◌, ◌∷◌, [], map, length, IfOk, IfErr};
 ghost use Rattle.std.specs.List.{All};
-ghost use Rattle.ot_plain.specs.Lists.{AreDistinct};
-ghost use Rattle.ot_plain.specs.Trees.{TyOp, TyVar, Free, Con, App};
-ghost use Rattle.ot_plain.specs.Hol.{fun_ty, bool_ty, HasType, type_in, type_of, equation, sequent_of};
-ghost use Rattle.ot_plain.specs.Hol.{IsClosed, tys_of_vars, type_theorems, subst_tm, constants_for};
-ghost use Rattle.ot_plain.specs.Naming.{numbers, IsNameTable};
-ghost use Rattle.ot_plain.specs.Rules.{within_limit};
+ghost use Rattle.ot_logic.specs.Lists.{AreDistinct};
+ghost use Rattle.ot_logic.specs.Trees.{TyOp, TyVar, Free, Con, App};
+ghost use Rattle.ot_logic.specs.Hol.{fun_ty, bool_ty, HasType, type_in, type_of, equation, sequent_of};
+ghost use Rattle.ot_logic.specs.Hol.{IsClosed, tys_of_vars, type_theorems, subst_tm, constants_for};
+ghost use Rattle.ot_logic.specs.Naming.{numbers, IsNameTable};
+ghost use Rattle.ot_logic.specs.Rules.{within_limit};
 ghost use Rattle.ot_type.specs.TypeTable.{type_at, types_at};
 ghost use Rattle.ot_term.specs.TermTable.{variable_of, IsGrownTo};
 ghost use Rattle.ot_subst.specs.Substitution.{variable_part, IsSubstOf};
@@ -24,7 +24,7 @@ use crate::equations::{abstract_from, apply, equate};
 use crate::fault::RuleFault;
 use crate::instances::Ledger;
 use crate::theorem::{Hypotheses, Theorem};
-use ot_plain::{Memory, NameId, Names};
+use ot_logic::{Memory, NameId, Names};
 use ot_subst::{Results, Subst};
 use ot_term::{Steps, TermId, Terms, VarKey};
 use ot_type::{TypeId, TypeSubst};

@@ -1,6 +1,6 @@
 //! Definitions by number.
 use crate::theorem::ThmId;
-use ot_plain::NameId;
+use ot_logic::NameId;
 use ot_term::VarKey;
 
 /// An accepted definition: its symbols, its premise and its theorems.

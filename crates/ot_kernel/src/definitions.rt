@@ -1,11 +1,11 @@
 //! Definitions: constants and type operators that theorems give their meaning.
 ghost use Rattle.std.specs.Prelude.{◌≡◌, ◌<◌, ◌++◌, ◌∷◌, [], map, length, Ok, IfOk, IfErr, OnOk, OnErr};
 ghost use Rattle.std.specs.List.{All};
-ghost use Rattle.ot_plain.specs.Lists.{IsSameSet};
-ghost use Rattle.ot_plain.specs.Trees.{ConDef, ListDef};
-ghost use Rattle.ot_plain.specs.Hol.{symbols_of, symbols_all, theorems, IsNext};
-ghost use Rattle.ot_plain.specs.Naming.{names as name_alphabet, numbers};
-ghost use Rattle.ot_plain.specs.Renamed.{map_symbol};
+ghost use Rattle.ot_logic.specs.Lists.{IsSameSet};
+ghost use Rattle.ot_logic.specs.Trees.{ConDef, ListDef};
+ghost use Rattle.ot_logic.specs.Hol.{symbols_of, symbols_all, theorems, IsNext};
+ghost use Rattle.ot_logic.specs.Naming.{names as name_alphabet, numbers};
+ghost use Rattle.ot_logic.specs.Renamed.{map_symbol};
 ghost use Rattle.ot_term.specs.declared.term.SymbolKind.TheVariants.{Con};
 ghost use Rattle.ot_laws.specs.Conditions.{checked_const, checked_list};
 ghost use Rattle.ot_kernel.specs.State.{name_at, variable_at, term_at, terms_at, theorem_at, Keeps};
@@ -24,7 +24,7 @@ use crate::fault::RuleFault;
 use crate::kernel::Kernel;
 use crate::theorem::{Theorem, ThmId};
 use ot_define::Signature;
-use ot_plain::{Memory, NameId};
+use ot_logic::{Memory, NameId};
 use ot_term::{Symbol, SymbolKind, TermId, Terms, VarKey};
 use std::alloc::Global;
 

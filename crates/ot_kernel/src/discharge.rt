@@ -1,8 +1,8 @@
 //! The rules that discharge hypotheses, over the table of terms.
 ghost use Rattle.std.specs.Prelude.{◌≡◌, ◌<◌, ◌&&◌, not, length, IfOk};
-ghost use Rattle.ot_plain.specs.Hol.{is_in, IsSequent};
-ghost use Rattle.ot_plain.specs.Naming.{numbers};
-ghost use Rattle.ot_plain.specs.Rules.{deduct_antisym_rule, prove_hyp_rule, proved_hyp};
+ghost use Rattle.ot_logic.specs.Hol.{is_in, IsSequent};
+ghost use Rattle.ot_logic.specs.Naming.{numbers};
+ghost use Rattle.ot_logic.specs.Rules.{deduct_antisym_rule, prove_hyp_rule, proved_hyp};
 ghost use Rattle.ot_kernel.specs.Numbered.{tm_at, tms_at, numbered_sequent, Derives, IsGrown};
 ghost use Rattle.ot_kernel.specs.Spelled.{IsInside};
 
@@ -11,7 +11,7 @@ use crate::fault::RuleFault;
 use crate::hypotheses::{minus, union};
 use crate::membership::has_term;
 use crate::theorem::Theorem;
-use ot_plain::Memory;
+use ot_logic::Memory;
 use ot_term::Terms;
 use std::alloc::Global;
 

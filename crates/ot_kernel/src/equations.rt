@@ -1,10 +1,10 @@
 //! The rules on equations, over the table of terms.
 ghost use Rattle.std.specs.Prelude.{◌≡◌, ℕ, ◌<◌, [], None, length, IfOk, IfErr};
-ghost use Rattle.ot_plain.specs.Trees.{Ty};
-ghost use Rattle.ot_plain.specs.Hol.{type_in, as_equation};
-ghost use Rattle.ot_plain.specs.Naming.{numbers};
-ghost use Rattle.ot_plain.specs.Rules.{app_rule, abs_rule, refl_rule, eq_mp_rule};
-ghost use Rattle.ot_plain.specs.Rules.{abs_thm_rule, app_thm_rule, sym_rule, trans_rule};
+ghost use Rattle.ot_logic.specs.Trees.{Ty};
+ghost use Rattle.ot_logic.specs.Hol.{type_in, as_equation};
+ghost use Rattle.ot_logic.specs.Naming.{numbers};
+ghost use Rattle.ot_logic.specs.Rules.{app_rule, abs_rule, refl_rule, eq_mp_rule};
+ghost use Rattle.ot_logic.specs.Rules.{abs_thm_rule, app_thm_rule, sym_rule, trans_rule};
 ghost use Rattle.ot_term.specs.TermTable.{variable_of, IsTermTable};
 ghost use Rattle.ot_kernel.specs.declared.fault.RuleFault.TheVariants.{NotEquation};
 ghost use Rattle.ot_kernel.specs.Numbered.{tm_at, numbered_sequent, Derives, IsGrown, IsGrownBy};

@@ -3,7 +3,7 @@ ghost use Rattle.ot_kernel.specs.declared.fault.RuleFault.TheVariants.{Memory as
 ghost use Rattle.ot_kernel.specs.Refusals.{of_define, of_table, of_term, of_subst};
 
 use ot_define::DefineFault;
-use ot_plain::Memory;
+use ot_logic::Memory;
 use ot_subst::SubstFault;
 use ot_term::TermFault;
 use ot_type::TableFault;

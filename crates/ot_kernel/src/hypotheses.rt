@@ -1,8 +1,8 @@
 //! Hypotheses as sets: terms that differ at most in the names of binders count as one.
 ghost use Rattle.std.specs.Prelude.{◌≡◌, ◌<◌, ◌++◌, ◌∷◌, [], length, if◌then◌else◌, IfOk, IfSome, OnOk};
 ghost use Rattle.std.specs.List.{All};
-ghost use Rattle.ot_plain.specs.Hol.{is_in, all_in, is_free_in_some, minus, union, once_each};
-ghost use Rattle.ot_plain.specs.Naming.{numbers};
+ghost use Rattle.ot_logic.specs.Hol.{is_in, all_in, is_free_in_some, minus, union, once_each};
+ghost use Rattle.ot_logic.specs.Naming.{numbers};
 ghost use Rattle.ot_term.specs.TermTable.{variable_of};
 ghost use Rattle.ot_kernel.specs.Numbered.{tm_at, tms_at};
 ghost use Rattle.ot_kernel.specs.Classes.{AreClassesOf};
@@ -12,7 +12,7 @@ use crate::theorem::Hypotheses;
 use indexmap::IndexSet;
 use ot_alpha::alpha_eq;
 use ot_class::ClassId;
-use ot_plain::Memory;
+use ot_logic::Memory;
 use ot_term::{TermId, Terms, VarKey};
 use std::alloc::Global;
 

@@ -1,9 +1,9 @@
 //! The rules that put terms in for variables, over the tables of names and terms.
 ghost use Rattle.std.specs.Prelude.{◌≡◌, ◌<◌, map, length, IfOk, IfErr};
 ghost use Rattle.std.specs.List.{All};
-ghost use Rattle.ot_plain.specs.Trees.{Tm};
-ghost use Rattle.ot_plain.specs.Naming.{numbers, IsNameTable};
-ghost use Rattle.ot_plain.specs.Rules.{beta_conv_rule, subst_rule};
+ghost use Rattle.ot_logic.specs.Trees.{Tm};
+ghost use Rattle.ot_logic.specs.Naming.{numbers, IsNameTable};
+ghost use Rattle.ot_logic.specs.Rules.{beta_conv_rule, subst_rule};
 ghost use Rattle.ot_subst.specs.Substitution.{type_part, variable_part, substituted, IsSubstOf};
 ghost use Rattle.ot_subst.specs.Walk.{NamesBelow, IsLater};
 ghost use Rattle.ot_kernel.specs.Answers.{RefusesRule};
@@ -14,7 +14,7 @@ use crate::equations::equate;
 use crate::fault::RuleFault;
 use crate::hypotheses::once_each;
 use crate::theorem::{Hypotheses, Theorem};
-use ot_plain::Names;
+use ot_logic::Names;
 use ot_subst::{Results, Subst, apply, beta};
 use ot_term::{Steps, TermId, Terms};
 use smallvec::SmallVec;

@@ -2,16 +2,16 @@
 //! where they are many.
 ghost use Rattle.std.specs.Prelude.{◌≡◌, ◌<◌, ◌∷◌, [], ℕ, List, length, IfOk, IfSome, OnOk};
 ghost use Rattle.std.specs.List.{All};
-ghost use Rattle.ot_plain.specs.Trees.{Tm};
-ghost use Rattle.ot_plain.specs.Hol.{is_in};
-ghost use Rattle.ot_plain.specs.Naming.{numbers};
+ghost use Rattle.ot_logic.specs.Trees.{Tm};
+ghost use Rattle.ot_logic.specs.Hol.{is_in};
+ghost use Rattle.ot_logic.specs.Naming.{numbers};
 ghost use Rattle.ot_kernel.specs.Numbered.{tm_at, tms_at};
 ghost use Rattle.ot_kernel.specs.Classes.{AreClassesOf, AddsClass};
 
 use indexmap::IndexSet;
 use ot_alpha::alpha_eq;
 use ot_class::ClassId;
-use ot_plain::Memory;
+use ot_logic::Memory;
 use ot_term::{TermId, Terms};
 use std::alloc::Global;
 

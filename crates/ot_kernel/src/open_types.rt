@@ -2,11 +2,11 @@
 //! of binders.
 ghost use Rattle.std.specs.Prelude.{◌≡◌, ◌<◌, true, map, length, ◌∷◌, IfErr};
 ghost use Rattle.std.specs.List.{All, list_all};
-ghost use Rattle.ot_plain.specs.Trees.{TyOp, Free, App};
-ghost use Rattle.ot_plain.specs.Hol.{fun_ty, bool_ty, HasType, IsClosed, equation, sequent_of as stated};
-ghost use Rattle.ot_plain.specs.Hol.{tys_of_vars, type_theorems, theorems_at, is_shallow_sequent};
-ghost use Rattle.ot_plain.specs.Naming.{names as name_alphabet, numbers};
-ghost use Rattle.ot_plain.specs.Rules.{within_limit};
+ghost use Rattle.ot_logic.specs.Trees.{TyOp, Free, App};
+ghost use Rattle.ot_logic.specs.Hol.{fun_ty, bool_ty, HasType, IsClosed, equation, sequent_of as stated};
+ghost use Rattle.ot_logic.specs.Hol.{tys_of_vars, type_theorems, theorems_at, is_shallow_sequent};
+ghost use Rattle.ot_logic.specs.Naming.{names as name_alphabet, numbers};
+ghost use Rattle.ot_logic.specs.Rules.{within_limit};
 ghost use Rattle.ot_type.specs.TypeTable.{type_at};
 ghost use Rattle.ot_term.specs.TermTable.{variable_of, IsGrownTo};
 ghost use Rattle.ot_kernel.specs.State.{name_at, theorem_at, Keeps};
@@ -22,7 +22,7 @@ use crate::fault::RuleFault;
 use crate::kernel::Kernel;
 use crate::theorem::{Hypotheses, Theorem, ThmId};
 use crate::type_operators::{listed, operator_theorems, parts};
-use ot_plain::NameId;
+use ot_logic::NameId;
 use ot_term::{TermId, Terms, VarKey};
 use ot_type::TypeId;
 use std::alloc::Global;

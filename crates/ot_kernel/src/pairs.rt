@@ -1,12 +1,12 @@
 //! Substitutions over the numbers of a kernel, pair by pair.
 ghost use Rattle.std.specs.Prelude.{◌≡◌, ◌<◌, length, if◌then◌else◌, IfOk, OnOk, OnErr};
-ghost use Rattle.ot_plain.specs.Naming.{names};
-ghost use Rattle.ot_plain.specs.Rules.{has_type};
+ghost use Rattle.ot_logic.specs.Naming.{names};
+ghost use Rattle.ot_logic.specs.Rules.{has_type};
 ghost use Rattle.ot_kernel.specs.State.{name_at, type_at, variable_at, term_at};
 ghost use Rattle.ot_kernel.specs.Pairs.{with_type, with_term, type_pairs, term_pairs, AreTypePairs, IsSubstIn};
 
 use crate::kernel::Kernel;
-use ot_plain::{Memory, NameId};
+use ot_logic::{Memory, NameId};
 use ot_subst::Subst;
 use ot_term::{TermId, VarKey};
 use ot_type::{TypeId, TypeSubst};

@@ -1,8 +1,8 @@
 //! Terms of a list, found by their alpha classes.
 ghost use Rattle.std.specs.Prelude.{◌≡◌, ◌<◌, ◌++◌, ◌∷◌, [], List, length, nat_eq, OnOk, OnErr};
 ghost use Rattle.std.specs.Map.{lookup};
-ghost use Rattle.ot_plain.specs.Names.{Name as NameValue};
-ghost use Rattle.ot_plain.specs.Trees.{Tm};
+ghost use Rattle.ot_logic.specs.Names.{Name as NameValue};
+ghost use Rattle.ot_logic.specs.Trees.{Tm};
 ghost use Rattle.ot_kernel.specs.State.{State, term_at};
 ghost use Rattle.ot_kernel.specs.Places.{IsPlaced};
 ghost use Rattle.ot_kernel.specs.Alike.{AreFirstPlaces, IsFirstPlace};
@@ -10,7 +10,7 @@ ghost use Rattle.ot_kernel.specs.Alike.{AreFirstPlaces, IsFirstPlace};
 use crate::kernel::Kernel;
 use indexmap::IndexMap;
 use ot_class::ClassId;
-use ot_plain::Memory;
+use ot_logic::Memory;
 use ot_term::TermId;
 use std::alloc::Global;
 use std::marker::Model;

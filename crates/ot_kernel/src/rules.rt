@@ -1,8 +1,8 @@
 //! The rules by which theorems are made. Each gives the sequent of its rule, or its one refusal.
 ghost use Rattle.std.specs.Prelude.{◌<◌, length};
-ghost use Rattle.ot_plain.specs.Naming.{names};
-ghost use Rattle.ot_plain.specs.Rules.{refl_rule, eq_mp_rule, abs_thm_rule, app_thm_rule, deduct_antisym_rule};
-ghost use Rattle.ot_plain.specs.Rules.{beta_conv_rule, subst_rule, sym_rule, trans_rule, prove_hyp_rule};
+ghost use Rattle.ot_logic.specs.Naming.{names};
+ghost use Rattle.ot_logic.specs.Rules.{refl_rule, eq_mp_rule, abs_thm_rule, app_thm_rule, deduct_antisym_rule};
+ghost use Rattle.ot_logic.specs.Rules.{beta_conv_rule, subst_rule, sym_rule, trans_rule, prove_hyp_rule};
 ghost use Rattle.ot_kernel.specs.State.{variable_at, term_at, theorem_at, Keeps, SameBasis};
 ghost use Rattle.ot_kernel.specs.Answers.{Concludes};
 ghost use Rattle.ot_kernel.specs.Pairs.{type_pairs, term_pairs, IsSubstIn};

@@ -1,11 +1,11 @@
 ghost use Rattle.std.specs.Prelude.{◌≡◌, ◌<◌, [], ◌∷◌, length, IfOk};
 ghost use Rattle.std.specs.List.{All};
-ghost use Rattle.ot_plain.specs.Hol.{same_sequent};
-ghost use Rattle.ot_plain.specs.Naming.{numbers};
+ghost use Rattle.ot_logic.specs.Hol.{same_sequent};
+ghost use Rattle.ot_logic.specs.Naming.{numbers};
 
 use crate::hypotheses::has_terms;
 use ot_alpha::alpha_eq;
-use ot_plain::Memory;
+use ot_logic::Memory;
 use ot_term::{TermId, Terms};
 use std::alloc::Global;
 use std::marker::Model;

@@ -1,9 +1,9 @@
 //! Type operators: types that are taken from the elements of others.
 ghost use Rattle.std.specs.Prelude.{◌≡◌, ◌<◌, suc, ◌∷◌, ◌++◌, [], map, length, Ok, IfOk, IfErr, OnOk};
 ghost use Rattle.std.specs.List.{All};
-ghost use Rattle.ot_plain.specs.Trees.{TyDef};
-ghost use Rattle.ot_plain.specs.Hol.{theorems, theorems_at, IsNext};
-ghost use Rattle.ot_plain.specs.Naming.{names as name_alphabet, numbers};
+ghost use Rattle.ot_logic.specs.Trees.{TyDef};
+ghost use Rattle.ot_logic.specs.Hol.{theorems, theorems_at, IsNext};
+ghost use Rattle.ot_logic.specs.Naming.{names as name_alphabet, numbers};
 ghost use Rattle.ot_laws.specs.Theorem.{IsTheorem};
 ghost use Rattle.ot_term.specs.TermTable.{IsGrownTo};
 ghost use Rattle.ot_term.specs.declared.term.SymbolKind.TheVariants.{TyOp};
@@ -22,7 +22,7 @@ use crate::definitions::constant_symbol;
 use crate::fault::RuleFault;
 use crate::kernel::Kernel;
 use crate::theorem::{Theorem, ThmId};
-use ot_plain::{Memory, NameId};
+use ot_logic::{Memory, NameId};
 use ot_term::{Symbol, SymbolKind, TermId, TermNode, Terms};
 use ot_type::TypeId;
 use std::alloc::Global;

@@ -1,9 +1,9 @@
 //! Which theorems are of a sequent or stronger, and which terms can stand in a sequent.
 ghost use Rattle.std.specs.Prelude.{◌≡◌, ◌<◌, ◌&&◌, length, IfOk};
 ghost use Rattle.std.specs.List.{All, list_all};
-ghost use Rattle.ot_plain.specs.Hol.{bool_ty, is_in, all_in, same_tm};
-ghost use Rattle.ot_plain.specs.Naming.{names, numbers};
-ghost use Rattle.ot_plain.specs.Rules.{has_type};
+ghost use Rattle.ot_logic.specs.Hol.{bool_ty, is_in, all_in, same_tm};
+ghost use Rattle.ot_logic.specs.Naming.{names, numbers};
+ghost use Rattle.ot_logic.specs.Rules.{has_type};
 ghost use Rattle.ot_kernel.specs.Numbered.{tm_at, tms_at};
 ghost use Rattle.ot_kernel.specs.State.{term_at, terms_at, theorem_at, Keeps, SameTheorems};
 ghost use Rattle.ot_kernel.specs.Spelled.{IsInside};
@@ -13,7 +13,7 @@ use crate::kernel::Kernel;
 use crate::membership::has_term;
 use crate::theorem::{Theorem, ThmId};
 use ot_alpha::alpha_eq;
-use ot_plain::Memory;
+use ot_logic::Memory;
 use ot_term::{TermId, Terms};
 use std::alloc::Global;
 

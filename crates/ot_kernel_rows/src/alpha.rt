@@ -3,7 +3,7 @@ ghost use Rattle.std.specs.Prelude.{◌<◌, ◌≤◌, length, IfOk};
 
 use crate::building::{abs, doubled, type_fun, type_var, var};
 use ot_alpha::alpha_eq;
-use ot_plain::NameId;
+use ot_logic::NameId;
 use ot_term::{TermFault, TermId, Terms};
 use ot_type::{TableFault, TypeId};
 use std::alloc::Global;

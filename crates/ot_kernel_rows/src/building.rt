@@ -2,7 +2,7 @@
 //! numbers are of the table and stay so: that keeps the proofs of rows short.
 ghost use Rattle.std.specs.Prelude.{◌≡◌, ◌<◌, ◌≤◌, length, IfOk};
 
-use ot_plain::{Memory, NameId};
+use ot_logic::{Memory, NameId};
 use ot_term::{TermFault, TermId, Terms, VarKey};
 use ot_type::{TableFault, TypeId};
 use std::process::Abort;

@@ -3,8 +3,8 @@ ghost use Rattle.std.specs.Prelude.{◌≡◌, ◌<◌, ◌≤◌, length, IfOk}
 
 use crate::building::key;
 use ot_kernel::Kernel;
+use ot_logic::{Memory, Name, NameId, Tm, Ty};
 use ot_match::{Match, find_match};
-use ot_plain::{Memory, Name, NameId, Tm, Ty};
 use ot_term::{TermFault, TermId};
 use ot_type::TypeId;
 use std::alloc::{AllocError, Global};

@@ -3,8 +3,8 @@ ghost use Rattle.std.specs.Prelude.{◌≡◌, ◌<◌, length, slice_index, IfO
 ghost use Rattle.std.specs.List.{All};
 
 use ot_kernel::{Kernel, ThmId};
+use ot_logic::{Name, NameId};
 use ot_parse::{Notation, WordKind};
-use ot_plain::{Name, NameId};
 use ot_pretty::{PrintFault, readable_text, run_symbols};
 use ot_term::VarKey;
 use ot_type::TypeId;

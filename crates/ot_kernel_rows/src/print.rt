@@ -5,7 +5,7 @@ ghost use Rattle.std.specs.Prelude.{◌≡◌, length};
 
 use ot_args::Sections;
 use ot_kernel::Kernel;
-use ot_plain::NameId;
+use ot_logic::NameId;
 use ot_print::{PrintFault, sequent_text, summary_text, term_text, type_text};
 use ot_term::VarKey;
 use std::alloc::Global;

@@ -1,7 +1,7 @@
 //! What theory files require, over folders of packages in memory.
 use crate::folder::{Entry, files_of};
 use ot_io::MemFiles;
-use ot_plain::Limits;
+use ot_logic::Limits;
 use ot_repo::{RepoFault, required};
 use ot_theory::TheoryFault;
 use std::alloc::Global;

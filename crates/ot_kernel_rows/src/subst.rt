@@ -4,7 +4,7 @@ ghost use Rattle.ot_subst.specs.Substitution.{IsSubstOf};
 ghost use Rattle.ot_subst.specs.Walk.{NamesBelow};
 
 use crate::building::key;
-use ot_plain::{Memory, NameId, Names};
+use ot_logic::{Memory, NameId, Names};
 use ot_subst::{Results, Subst, SubstFault, apply, beta};
 use ot_term::{Steps, TermId, TermNode, Terms};
 use ot_type::{TableFault, TypeId, TypeSubst};

@@ -4,7 +4,7 @@ ghost use Rattle.std.specs.Prelude.{◌<◌, ◌≤◌, length, IfOk};
 use crate::building::{
     abs, app, compare, constant, doubled, key, type_bool, type_fun, type_var, var,
 };
-use ot_plain::NameId;
+use ot_logic::NameId;
 use ot_term::{Symbol, SymbolKind, TermFault, TermId, Terms, VarKey};
 use ot_type::{TableFault, TypeId};
 use std::alloc::Global;

@@ -3,7 +3,7 @@ ghost use Rattle.std.specs.Prelude.{◌<◌, ◌≤◌, length, IfOk};
 ghost use Rattle.std.specs.List.{All};
 
 use crate::building::compare;
-use ot_plain::{Memory, NameId};
+use ot_logic::{Memory, NameId};
 use ot_type::{TableFault, TypeId, TypeNode, TypeSubst, Types};
 use std::alloc::Global;
 use std::process::Abort;

@@ -1,10 +1,11 @@
 -- Substitution on named terms: one binder, and the whole walk.
 use Rattle.std.specs.Prelude.{◌≢◌}
 use Rattle.std.proofs.Common.{◌≡◌, [], ◌∷◌, refl, sym, ap, subst, ◌∙◌, inl, inr, ◌⊎◌}
-use Rattle.ot_plain.specs.Trees.{Alphabet, Ty, Variable, Tm, Free, Named, NVar, NConst, NApp, NAbs}
-use Rattle.ot_plain.specs.Lists.{IsMember}
-use Rattle.ot_plain.specs.Hol.{TypeMap, type_at, inst, inst_by, close_at, bind, TermMap, term_at}
-use Rattle.ot_plain.specs.Hol.{inst_var, subst_tm, IsFree, nameless, IsFreeIn, Renaming, image, IsApart}
+use Rattle.ot_logic.specs.Trees.{Alphabet, Ty, Variable, Tm, Free, Named, NVar, NConst, NApp, NAbs}
+use Rattle.ot_logic.specs.Lists.{IsMember}
+use Rattle.ot_logic.specs.Hol.{TypeMap, type_at, inst, inst_by, close_at, bind}
+use Rattle.ot_logic.specs.Hol.{TermMap, term_at, inst_var, subst_tm, IsFree}
+use Rattle.ot_logic.specs.NamedTerms.{nameless, IsFreeIn, Renaming, image, IsApart}
 use Rattle.ot_laws.specs.Walk.{NamedMap, nameless_map, named_at, named_image, BinderRule, apply_by, Picks}
 use Rattle.ot_laws.proofs.Tests.{Tells, var_cases, same_var-no}
 use Rattle.ot_laws.proofs.Terms.{with, bind-close_at, bind-agree}

@@ -3,11 +3,11 @@ use Rattle.std.specs.Prelude.{slice_get}
 use Rattle.std.specs.Option.{unwrap_or}
 use Rattle.std.proofs.Common.{◌≡◌, ℕ, zero, suc, ◌<◌, List, [], ◌∷◌, Some, refl, sym, ap, ◌∙◌, subst, arith, take}
 use Rattle.std.proofs.lemmas.Option.{same_Some}
-use Rattle.ot_plain.specs.Trees.{Alphabet, Ty, TyOp, Variable, Tm, Con, Bound, App}
-use Rattle.ot_plain.specs.Trees.{Abs, Sequent, Definition, ConDef, ListDef, TyDef}
-use Rattle.ot_plain.specs.Hol.{fun_ty, bool_ty, HasType, type_in, subst_tm, equation, theorems}
-use Rattle.ot_plain.specs.Hol.{theorems_at, type_theorems, sequent_of, type_of, constants_for}
-use Rattle.ot_plain.specs.Hol.{tys_of_vars, IsTyped, IsSequent, IsFine, Accepted, Derivable}
+use Rattle.ot_logic.specs.Trees.{Alphabet, Ty, TyOp, Variable, Tm, Con, Bound, App}
+use Rattle.ot_logic.specs.Trees.{Abs, Sequent, Definition, ConDef, ListDef, TyDef}
+use Rattle.ot_logic.specs.Hol.{fun_ty, bool_ty, HasType, type_in, subst_tm, equation, theorems}
+use Rattle.ot_logic.specs.Hol.{theorems_at, type_theorems, sequent_of, type_of, constants_for}
+use Rattle.ot_logic.specs.Hol.{tys_of_vars, IsTyped, IsSequent, IsFine, Accepted, Derivable}
 use Rattle.ot_laws.specs.Theorem.{AreSequents}
 use Rattle.ot_laws.proofs.Tests.{Tells}
 use Rattle.ot_laws.proofs.Typing.{app-typed, applied-some, type-more}

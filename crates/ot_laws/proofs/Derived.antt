@@ -1,15 +1,15 @@
 -- Rules that follow from the primitive ones.
 use Rattle.std.proofs.Common.{List, [], ◌++◌, refl}
 use Rattle.std.proofs.lemmas.List.{append-nil}
-use Rattle.ot_plain.specs.Lists.{IsSameSet}
-use Rattle.ot_plain.specs.Trees.{Alphabet, Ty, Tm, Con, App, Sequent, Definition}
-use Rattle.ot_plain.specs.Hol.{fun_ty, bool_ty, HasType, equation, minus, Derivable}
-use Rattle.ot_plain.specs.Hol.{Refl, EqMp, AppThm, DeductAntisym, SameSet}
+use Rattle.ot_logic.specs.Lists.{IsSameSet}
+use Rattle.ot_logic.specs.Trees.{Alphabet, Ty, Tm, Con, App, Sequent, Definition}
+use Rattle.ot_logic.specs.Hol.{fun_ty, bool_ty, HasType, equation, minus, Derivable}
+use Rattle.ot_logic.specs.Hol.{Refl, EqMp, AppThm, DeductAntisym, SameSet}
 use Rattle.ot_laws.proofs.Tests.{Tells}
 use Rattle.ot_laws.proofs.Typing.{app-typed}
 use Rattle.ot_laws.proofs.Sets.{part-append}
 use Rattle.ot_laws.proofs.Hypotheses.{IsMember-minus}
-use Rattle.ot_plain.proofs.Members.{IsMember-left, IsMember-right}
+use Rattle.ot_logic.proofs.Members.{IsMember-left, IsMember-right}
 
 -- the constant `=` at a type
 abbrev equals_at : {N : Type 0} → Alphabet N → Ty N → Tm N

@@ -2,8 +2,8 @@
 use Rattle.std.proofs.Common.{◌≡◌, Bool, true, false, cond, ◌&&◌, List, [], Option, Some, None, refl, sym, ap, ◌∙◌}
 use Rattle.std.proofs.lemmas.Bool.{and_parts}
 use Rattle.std.proofs.lemmas.Option.{same_Some}
-use Rattle.ot_plain.specs.Trees.{Alphabet, Ty, TyOp, NoTys, MoreTys, Tm, Con, App}
-use Rattle.ot_plain.specs.Hol.{same_ty, fun_ty, bool_ty, type_in, applied, HasType, equation, as_equation}
+use Rattle.ot_logic.specs.Trees.{Alphabet, Ty, TyOp, NoTys, MoreTys, Tm, Con, App}
+use Rattle.ot_logic.specs.Hol.{same_ty, fun_ty, bool_ty, type_in, applied, HasType, equation, as_equation}
 use Rattle.ot_laws.proofs.Tests.{Tells, same_ty-is}
 use Rattle.ot_laws.proofs.Typing.{result_ty-fun, applied-some}
 

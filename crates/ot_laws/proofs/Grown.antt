@@ -1,11 +1,11 @@
 -- Derivability and acceptance, as assumptions and definitions grow.
 use Rattle.std.specs.Prelude.{slice_get}
 use Rattle.std.proofs.Common.{◌≡◌, ℕ, zero, suc, List, [], ◌∷◌, ◌++◌, refl, ap, subst, inl, inr, ◌⊎◌, Some, take}
-use Rattle.ot_plain.specs.Table.{Extends}
-use Rattle.ot_plain.specs.Trees.{Alphabet, Tm, Sequent, Definition, ConDef, ListDef, TyDef}
-use Rattle.ot_plain.specs.Hol.{Derivable, Refl, Assume, EqMp, AbsThm, AppThm, DeductAntisym, BetaConv}
-use Rattle.ot_plain.specs.Hol.{Subst, Assumption, Defined, SameSet, IsFine, IsNext, Accepted}
-use Rattle.ot_plain.proofs.TableLemmas.{Extends-refl}
+use Rattle.ot_logic.specs.Table.{Extends}
+use Rattle.ot_logic.specs.Trees.{Alphabet, Tm, Sequent, Definition, ConDef, ListDef, TyDef}
+use Rattle.ot_logic.specs.Hol.{Derivable, Refl, Assume, EqMp, AbsThm, AppThm, DeductAntisym, BetaConv}
+use Rattle.ot_logic.specs.Hol.{Subst, Assumption, Defined, SameSet, IsFine, IsNext, Accepted}
+use Rattle.ot_logic.proofs.TableLemmas.{Extends-refl}
 
 -- a place of a list with one more entry, and what stands before it
 place_cases : {X : Type 0} (xs : List X) (e d : X) (i : ℕ) → slice_get (xs ++ e ∷ []) i ≡ Some d

@@ -7,12 +7,12 @@ use Rattle.std.proofs.lemmas.Bool.Decides.{Decides-like, Decides-eqb, same_from_
 use Rattle.std.proofs.lemmas.List.{append-nil}
 use Rattle.std.proofs.lemmas.Grind.{common_steps}
 use Rattle.indexmap.specs.IndexSet.{insert_key}
-use Rattle.ot_plain.specs.Lists.{IsMember, AreDistinct}
-use Rattle.ot_plain.specs.Trees.{Alphabet}
+use Rattle.ot_logic.specs.Lists.{IsMember, AreDistinct}
+use Rattle.ot_logic.specs.Trees.{Alphabet}
 use Rattle.ot_laws.proofs.Tests.{cases_of}
 use Rattle.ot_laws.specs.Conditions.{are_distinct}
 use Rattle.ot_laws.proofs.Membership.{any-is, are_distinct-is}
-use Rattle.ot_plain.proofs.Members.{IsMember-cases, IsMember-left, IsMember-right}
+use Rattle.ot_logic.proofs.Members.{IsMember-cases, IsMember-left, IsMember-right}
 
 module _ {X : Type 0} (eq : X → X → Bool) where
   -- the set after more is what it was, and then what is new

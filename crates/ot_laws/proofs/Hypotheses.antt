@@ -5,12 +5,12 @@ use Rattle.std.proofs.Common.{◌≡◌, true, false, Bool, cond, List, [], ◌�
 use Rattle.std.proofs.Common.{◌++◌, refl, sym, ap, ◌∙◌, subst, inl, inr, ◌⊎◌}
 use Rattle.std.proofs.Math.Bool.{or_assoc}
 use Rattle.std.proofs.lemmas.Bool.Decides.{Decides-and, Decides-or, Decides-like}
-use Rattle.ot_plain.specs.Lists.{IsMember, IsPart, IsSameSet, AreDistinct}
-use Rattle.ot_plain.specs.Trees.{Alphabet, Tm, Sequent}
-use Rattle.ot_plain.specs.Hol.{same_tm, minus, is_in, lacking, union, once_each, all_in, same_sequent}
+use Rattle.ot_logic.specs.Lists.{IsMember, IsPart, IsSameSet, AreDistinct}
+use Rattle.ot_logic.specs.Trees.{Alphabet, Tm, Sequent}
+use Rattle.ot_logic.specs.Hol.{same_tm, minus, is_in, lacking, union, once_each, all_in, same_sequent}
 use Rattle.ot_laws.proofs.Tests.{Tells, cases_of, same_tm-is, tm_cases}
 use Rattle.ot_laws.proofs.Sets.{distinct-append}
-use Rattle.ot_plain.proofs.Members.{IsMember-cases, IsMember-left, IsMember-right}
+use Rattle.ot_logic.proofs.Members.{IsMember-cases, IsMember-left, IsMember-right}
 
 kept-append : {X : Type 0} (b : Bool) (x : X) (xs ys zs : List X) → xs ≡ ys ++ zs
     → cond b xs (x ∷ xs) ≡ cond b ys (x ∷ ys) ++ zs

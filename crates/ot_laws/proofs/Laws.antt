@@ -1,8 +1,9 @@
 -- The laws of several parts, each from its lemmas.
 use Rattle.std.proofs.Common.{List, ◌++◌, refl, ap, ◌∙◌}
-use Rattle.ot_plain.specs.Trees.{Alphabet, Sequent, Definition}
-use Rattle.ot_plain.specs.Hol.{as_equation, distinct_named, parts}
-use Rattle.ot_plain.proofs.TableLemmas.{Extends-append}
+use Rattle.ot_logic.specs.Trees.{Alphabet, Sequent, Definition}
+use Rattle.ot_logic.specs.Hol.{as_equation}
+use Rattle.ot_logic.specs.NamedTerms.{distinct_named, parts}
+use Rattle.ot_logic.proofs.TableLemmas.{Extends-append}
 use Rattle.ot_laws.specs.Laws.{TestsDecide, HypothesesAreSets, SizeCountsParts}
 use Rattle.ot_laws.specs.Laws.{Growth, TermRulesAreSound, RulesAreSound}
 use Rattle.ot_laws.proofs.Tests.{Tells, same_ty-is, same_var-is, same_tm-is, same_named-is}
@@ -16,7 +17,7 @@ use Rattle.ot_laws.proofs.Steps.{op_rule-ok, app_rule-ok, abs_rule-ok}
 use Rattle.ot_laws.proofs.Sound.{refl_rule-sound, assume_rule-sound, eq_mp_rule-sound, abs_thm_rule-sound}
 use Rattle.ot_laws.proofs.Sound.{app_thm_rule-sound, deduct_antisym_rule-sound, beta_conv_rule-sound}
 use Rattle.ot_laws.proofs.Sound.{subst_rule-sound, sym_rule-sound, trans_rule-sound, prove_hyp_rule-sound}
-use Rattle.ot_plain.proofs.Results.{if_ok}
+use Rattle.ot_logic.proofs.Results.{if_ok}
 
 pub growth : {N : Type 0} (alphabet : Alphabet N) → Growth alphabet
 growth alphabet = record {

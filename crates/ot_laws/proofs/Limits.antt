@@ -5,9 +5,9 @@ use Rattle.std.proofs.Common.{◌≡◌, ℕ, Bool, true, List, [], ◌∷◌, �
 use Rattle.std.proofs.Math.Bool.{and-true}
 use Rattle.std.proofs.lemmas.Bool.{and_parts}
 use Rattle.std.proofs.lemmas.List.Folds.{list_all-append}
-use Rattle.ot_plain.specs.Trees.{Alphabet, Ty, Variable, Named, NVar, NConst, NApp, NAbs}
-use Rattle.ot_plain.specs.Hol.{type_in, depth_limit, is_shallow_ty, has_shallow_types, is_shallow_type}
-use Rattle.ot_plain.specs.Hol.{is_shallow, place, at_place, nameless, nameless_in, named_type, named_depth, parts}
+use Rattle.ot_logic.specs.Trees.{Alphabet, Ty, Variable, Named, NVar, NConst, NApp, NAbs}
+use Rattle.ot_logic.specs.Hol.{type_in, depth_limit, is_shallow_ty, has_shallow_types, is_shallow_type, is_shallow}
+use Rattle.ot_logic.specs.NamedTerms.{place, at_place, nameless, nameless_in, named_type, named_depth, parts}
 use Rattle.ot_laws.specs.Limits.{is_shallow_named}
 use Rattle.ot_laws.proofs.Tests.{Tells}
 use Rattle.ot_laws.proofs.Named.{nameless_in-nil}

@@ -3,9 +3,9 @@ use Rattle.std.specs.Bool.{Decides}
 use Rattle.std.specs.List.{list_all, list_any}
 use Rattle.std.proofs.Common.{◌≡◌, Bool, List, [], ◌∷◌, ◌&&◌, not, refl, sym, ap, subst, inl, inr}
 use Rattle.std.proofs.lemmas.Bool.Decides.{Decides-and, Decides-or, Decides-not, Decides-like, same_from_decides}
-use Rattle.ot_plain.specs.Lists.{IsMember, IsPart, IsSameSet, AreDistinct}
-use Rattle.ot_plain.specs.Trees.{Alphabet, Variable, Tm, Free, Con, Bound, App, Abs, Symbol, ConSymbol, OpSymbol}
-use Rattle.ot_plain.specs.Hol.{IsFree, same_var}
+use Rattle.ot_logic.specs.Lists.{IsMember, IsPart, IsSameSet, AreDistinct}
+use Rattle.ot_logic.specs.Trees.{Alphabet, Variable, Tm, Free, Con, Bound, App, Abs, Symbol, ConSymbol, OpSymbol}
+use Rattle.ot_logic.specs.Hol.{IsFree, same_var}
 use Rattle.ot_laws.proofs.Tests.{Tells, same_var-is}
 use Rattle.ot_laws.specs.Conditions.{same_symbol, is_among, is_closed_but, are_names_of, are_distinct}
 

@@ -2,8 +2,9 @@
 use Rattle.std.specs.Prelude.{◌≢◌}
 use Rattle.std.proofs.Common.{◌≡◌, ℕ, suc, cond, List, [], ◌∷◌, ◌++◌, length}
 use Rattle.std.proofs.Common.{Some, None, refl, sym, ap, ◌∙◌, inl, inr, ◌⊎◌}
-use Rattle.ot_plain.specs.Trees.{Alphabet, Variable, Tm, Free, Con, Bound, App, Abs, Named, NVar, NConst, NApp, NAbs}
-use Rattle.ot_plain.specs.Hol.{same_var, close_at, IsFree, nameless, nameless_in, place, IsFreeIn}
+use Rattle.ot_logic.specs.Trees.{Alphabet, Variable, Tm, Free, Con, Bound, App, Abs, Named, NVar, NConst, NApp, NAbs}
+use Rattle.ot_logic.specs.Hol.{same_var, close_at, IsFree}
+use Rattle.ot_logic.specs.NamedTerms.{nameless, nameless_in, place, IsFreeIn}
 use Rattle.ot_laws.proofs.Tests.{Tells, var_cases}
 
 module _ {N : Type 0} (alphabet : Alphabet N) (tells : Tells alphabet) where

@@ -1,19 +1,20 @@
 -- A variable whose name's number is past all that occur is free in nothing.
 use Rattle.std.specs.Prelude.{◌≢◌, max}
 use Rattle.std.proofs.Common.{◌≡◌, ℕ, suc, ◌<◌, ◌≤◌, [], ◌∷◌, refl, sym, ap, subst, inl, inr, arith}
-use Rattle.ot_plain.specs.Lists.{IsMember}
-use Rattle.ot_plain.specs.Trees.{Variable, Tm, Named, NVar, NConst, NApp, NAbs}
-use Rattle.ot_plain.specs.Hol.{TypeMap, TermMap, inst, inst_var, IsFree, nameless, IsFreeIn, Renaming, image}
-use Rattle.ot_plain.specs.Naming.{numbers, names, IsNames}
-use Rattle.ot_plain.specs.Bounds.{bound_named}
-use Rattle.ot_plain.proofs.Lift.{carry}
-use Rattle.ot_plain.proofs.Naming.{naming, lettering}
+use Rattle.ot_logic.specs.Lists.{IsMember}
+use Rattle.ot_logic.specs.Trees.{Variable, Tm, Named, NVar, NConst, NApp, NAbs}
+use Rattle.ot_logic.specs.Hol.{TypeMap, TermMap, inst, inst_var, IsFree}
+use Rattle.ot_logic.specs.NamedTerms.{nameless, IsFreeIn, Renaming, image}
+use Rattle.ot_logic.specs.Naming.{numbers, names, IsNames}
+use Rattle.ot_logic.specs.Bounds.{bound_named}
+use Rattle.ot_logic.proofs.Lift.{carry}
+use Rattle.ot_logic.proofs.Naming.{naming, lettering}
 use Rattle.ot_laws.specs.Laws.{BindersCanBePicked}
 use Rattle.ot_laws.specs.Walk.{NamedMap, nameless_map, BinderRule, Picks}
 use Rattle.ot_laws.proofs.Tests.{tells_numbers, var_cases}
 use Rattle.ot_laws.proofs.Named.{free-nameless}
 use Rattle.ot_laws.proofs.Apply.{term_at-cases}
-use Rattle.ot_plain.proofs.Members.{IsMember-map_back}
+use Rattle.ot_logic.proofs.Members.{IsMember-map_back}
 
 -- a free variable's name is below the bound
 pub free-below : (x : Variable ℕ) (t : Named ℕ) → IsFreeIn numbers x t → x.name < bound_named t

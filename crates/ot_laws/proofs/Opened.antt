@@ -2,10 +2,10 @@
 use Rattle.std.proofs.Common.{◌≡◌, ℕ, suc, ◌<◌, false, [], ◌∷◌, refl, sym, ap, ◌∙◌, inl, inr, arith}
 use Rattle.std.specs.Prelude.{◌==◌}
 use Rattle.std.proofs.lemmas.Bool.{eq-eqb, ne_eqb}
-use Rattle.ot_plain.specs.Trees.{Alphabet, Ty, TyVar, Variable, Tm, Free, Con}
-use Rattle.ot_plain.specs.Trees.{Bound, App, Abs, Named, NVar, NConst, NApp, NAbs}
-use Rattle.ot_plain.specs.Hol.{inst, close_at, close, open_at, opened, bind}
-use Rattle.ot_plain.specs.Hol.{term_at, inst_var, subst_tm, IsWithin, nameless}
+use Rattle.ot_logic.specs.Trees.{Alphabet, Ty, TyVar, Variable, Tm, Free, Con}
+use Rattle.ot_logic.specs.Trees.{Bound, App, Abs, Named, NVar, NConst, NApp, NAbs}
+use Rattle.ot_logic.specs.Hol.{inst, close_at, close, open_at, opened, bind, term_at, inst_var, subst_tm, IsWithin}
+use Rattle.ot_logic.specs.NamedTerms.{nameless}
 use Rattle.ot_laws.proofs.Tests.{Tells, var_cases}
 use Rattle.ot_laws.proofs.Terms.{inst_by-id, with, bind-agree}
 

@@ -2,11 +2,11 @@
 use Rattle.std.specs.Bool.{Decides}
 use Rattle.std.proofs.Common.{◌≡◌, ◌≤◌, true, false, List, [], ◌∷◌, length, refl, sym, subst, inl, inr, ◌⊎◌}
 use Rattle.std.proofs.lemmas.Bool.Decides.{Decides-or, Decides-like}
-use Rattle.ot_plain.specs.Lists.{IsMember, IsPart, IsSameSet, AreDistinct}
-use Rattle.ot_plain.specs.Trees.{Alphabet, Named, NVar, NConst, NApp, NAbs}
-use Rattle.ot_plain.specs.Hol.{same_named, parts, has_named, distinct_named, size}
+use Rattle.ot_logic.specs.Lists.{IsMember, IsPart, IsSameSet, AreDistinct}
+use Rattle.ot_logic.specs.Trees.{Alphabet, Named, NVar, NConst, NApp, NAbs}
+use Rattle.ot_logic.specs.NamedTerms.{same_named, parts, has_named, distinct_named, size}
 use Rattle.ot_laws.proofs.Tests.{Tells, cases_of, same_named-is}
-use Rattle.ot_plain.proofs.Members.{IsMember-cases, IsMember-left, IsMember-right, distinct-length}
+use Rattle.ot_logic.proofs.Members.{IsMember-cases, IsMember-left, IsMember-right, distinct-length}
 
 module _ {N : Type 0} (alphabet : Alphabet N) where
   -- a term is a part of itself, and a part of a part is a part

@@ -5,17 +5,17 @@ use Rattle.std.proofs.Common.{Result, Ok, Err, sym, ap, ◌∙◌, subst, inl, i
 use Rattle.std.proofs.lemmas.Bool.{not-true}
 use Rattle.std.proofs.lemmas.Bool.Decides.{not_from_Decides}
 use Rattle.std.proofs.lemmas.Option.{same_Some}
-use Rattle.ot_plain.specs.Lists.{IsSameSet, AreDistinct}
-use Rattle.ot_plain.specs.Trees.{Alphabet, Ty, Variable, Tm, App, Abs, Sequent, Definition}
-use Rattle.ot_plain.specs.Hol.{same_ty, fun_ty, bool_ty, as_fun_ty, type_in, type_of, IsWellTyped, close}
-use Rattle.ot_plain.specs.Hol.{opened, TypeMap, TermMap, subst_tm, same_tm, equation, minus, is_in, union}
-use Rattle.ot_plain.specs.Hol.{once_each, is_free_in_some, sequent_of, IsTyped, IsSequent, Derivable, Refl}
-use Rattle.ot_plain.specs.Hol.{Assume, EqMp, AbsThm, AppThm, DeductAntisym, BetaConv, Subst, SameSet}
-use Rattle.ot_plain.specs.Faults.{Fault, NotBool, NotAlphaEqual, VarFreeInHyps, NotFunction, ArgumentType}
-use Rattle.ot_plain.specs.Answers.{unless, some_or}
-use Rattle.ot_plain.specs.Rules.{has_type, within_limit, sides, refl_rule, assume_rule, eq_mp_rule}
-use Rattle.ot_plain.specs.Rules.{abs_thm_rule, app_thm_rule, deduct_antisym_rule, beta_conv_rule}
-use Rattle.ot_plain.specs.Rules.{subst_rule, sym_rule, trans_rule, proved_hyp, prove_hyp_rule}
+use Rattle.ot_logic.specs.Lists.{IsSameSet, AreDistinct}
+use Rattle.ot_logic.specs.Trees.{Alphabet, Ty, Variable, Tm, App, Abs, Sequent, Definition}
+use Rattle.ot_logic.specs.Hol.{same_ty, fun_ty, bool_ty, as_fun_ty, type_in, type_of, IsWellTyped, close}
+use Rattle.ot_logic.specs.Hol.{opened, TypeMap, TermMap, subst_tm, same_tm, equation, minus, is_in, union}
+use Rattle.ot_logic.specs.Hol.{once_each, is_free_in_some, sequent_of, IsTyped, IsSequent, Derivable, Refl}
+use Rattle.ot_logic.specs.Hol.{Assume, EqMp, AbsThm, AppThm, DeductAntisym, BetaConv, Subst, SameSet}
+use Rattle.ot_logic.specs.Faults.{Fault, NotBool, NotAlphaEqual, VarFreeInHyps, NotFunction, ArgumentType}
+use Rattle.ot_logic.specs.Answers.{unless, some_or}
+use Rattle.ot_logic.specs.Rules.{has_type, within_limit, sides, refl_rule, assume_rule, eq_mp_rule}
+use Rattle.ot_logic.specs.Rules.{abs_thm_rule, app_thm_rule, deduct_antisym_rule, beta_conv_rule}
+use Rattle.ot_logic.specs.Rules.{subst_rule, sym_rule, trans_rule, proved_hyp, prove_hyp_rule}
 use Rattle.ot_laws.specs.Theorem.{IsTheorem}
 use Rattle.ot_laws.proofs.Tests.{Tells, cases_of, same_ty-is, same_tm-is, tm_cases, has_type-is, is_free_in_some-is}
 use Rattle.ot_laws.proofs.Typing.{as_fun_ty-some, type_of-typed}
@@ -28,7 +28,7 @@ use Rattle.ot_laws.proofs.Derived.{sym-derivable, trans-derivable, prove_hyp-der
 use Rattle.ot_laws.proofs.Typed.{sequent, part-typed, append-typed, refl-typed}
 use Rattle.ot_laws.proofs.Typed.{assume-typed, eq_mp-typed, abs_thm-typed, app_thm-typed}
 use Rattle.ot_laws.proofs.Typed.{deduct_antisym-typed, beta_conv-typed, subst_rule-typed}
-use Rattle.ot_plain.proofs.Results.{bind-ok, same_Ok, some_or-ok, unless-ok}
+use Rattle.ot_logic.proofs.Results.{bind-ok, same_Ok, some_or-ok, unless-ok}
 
 module _ {N : Type 0} (alphabet : Alphabet N) (tells : Tells alphabet) (al : List (Sequent N))
     (dl : List (Definition N)) where

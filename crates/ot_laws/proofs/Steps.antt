@@ -3,16 +3,16 @@ use Rattle.std.specs.Prelude.{if◌then◌else◌}
 use Rattle.std.specs.Option.{option_and_then}
 use Rattle.std.proofs.Common.{◌≡◌, Bool, true, false, [], Option, Some, None}
 use Rattle.std.proofs.Common.{Result, Ok, Err, refl, sym, ap, subst, ◌∙◌}
-use Rattle.ot_plain.specs.Trees.{Alphabet, Ty, Tys, TyOp, Variable, Tm, App, Abs, Sequent}
-use Rattle.ot_plain.specs.Hol.{fun_ty, as_fun_ty, is_shallow_ty, type_in, HasType, IsWellTyped}
-use Rattle.ot_plain.specs.Hol.{close, is_shallow, equation, as_equation, is_shallow_sequent}
-use Rattle.ot_plain.specs.Faults.{Fault, NotEquation, NotFunction, ArgumentType, Nesting}
-use Rattle.ot_plain.specs.Answers.{unless, some_or}
-use Rattle.ot_plain.specs.Rules.{has_type, op_rule, app_rule, abs_rule, within_limit, sides}
+use Rattle.ot_logic.specs.Trees.{Alphabet, Ty, Tys, TyOp, Variable, Tm, App, Abs, Sequent}
+use Rattle.ot_logic.specs.Hol.{fun_ty, as_fun_ty, is_shallow_ty, type_in, HasType, IsWellTyped}
+use Rattle.ot_logic.specs.Hol.{close, is_shallow, equation, as_equation, is_shallow_sequent}
+use Rattle.ot_logic.specs.Faults.{Fault, NotEquation, NotFunction, ArgumentType, Nesting}
+use Rattle.ot_logic.specs.Answers.{unless, some_or}
+use Rattle.ot_logic.specs.Rules.{has_type, op_rule, app_rule, abs_rule, within_limit, sides}
 use Rattle.ot_laws.proofs.Tests.{Tells, has_type-is}
 use Rattle.ot_laws.proofs.Typing.{app-typed, as_fun_ty-some, type-close_at}
 use Rattle.ot_laws.proofs.Equations.{as_equation-some, as_equation-equation}
-use Rattle.ot_plain.proofs.Results.{bind-ok, same_Ok, some_or-ok, unless-ok}
+use Rattle.ot_logic.proofs.Results.{bind-ok, same_Ok, some_or-ok, unless-ok}
 
 pub and_then-some : {A B : Type 0} (f : A → Option B) (o : Option A) (y : B) → option_and_then f o ≡ Some y
     → (x : A) × (o ≡ Some x) × (f x ≡ Some y)

@@ -1,11 +1,12 @@
 -- The type variables and the symbols of a named abstraction's nameless form.
 use Rattle.std.proofs.Common.{◌≡◌, ℕ, suc, List, [], ◌∷◌, ◌++◌, refl, subst, inl, inr, ◌⊎◌}
-use Rattle.ot_plain.specs.Lists.{IsMember, IsPart, IsSameSet}
-use Rattle.ot_plain.specs.Trees.{Alphabet, Ty, Variable, Tm, Free, Con, Bound, App, Abs, Named, NAbs, ConSymbol}
-use Rattle.ot_plain.specs.Hol.{vars_ty, vars_tm, symbols_ty, symbols_tm, close_at, nameless}
+use Rattle.ot_logic.specs.Lists.{IsMember, IsPart, IsSameSet}
+use Rattle.ot_logic.specs.Trees.{Alphabet, Ty, Variable, Tm, Free, Con, Bound, App, Abs, Named, NAbs, ConSymbol}
+use Rattle.ot_logic.specs.Hol.{vars_ty, vars_tm, symbols_ty, symbols_tm, close_at}
+use Rattle.ot_logic.specs.NamedTerms.{nameless}
 use Rattle.ot_laws.proofs.Tests.{Tells, var_cases}
 use Rattle.ot_laws.proofs.Sets.{part-append}
-use Rattle.ot_plain.proofs.Members.{IsMember-cases, IsMember-left, IsMember-right}
+use Rattle.ot_logic.proofs.Members.{IsMember-cases, IsMember-left, IsMember-right}
 
 -- what is gathered from the types and the constants of a term
 abbrev gathered : {N X : Type 0} → (Ty N → List X) → (N → Ty N → List X) → Tm N → List X

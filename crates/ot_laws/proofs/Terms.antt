@@ -1,9 +1,9 @@
 -- Terms under closing and substitution.
 use Rattle.std.specs.Prelude.{◌≢◌}
 use Rattle.std.proofs.Common.{◌≡◌, ℕ, suc, cond, refl, sym, ap, subst, inl, inr}
-use Rattle.ot_plain.specs.Trees.{Alphabet, Ty, Tys, TyVar, TyOp, NoTys, MoreTys}
-use Rattle.ot_plain.specs.Trees.{Variable, Tm, Free, Con, Bound, App, Abs}
-use Rattle.ot_plain.specs.Hol.{same_var, inst_by, inst_all, close_at, bind, IsFree}
+use Rattle.ot_logic.specs.Trees.{Alphabet, Ty, Tys, TyVar, TyOp, NoTys, MoreTys}
+use Rattle.ot_logic.specs.Trees.{Variable, Tm, Free, Con, Bound, App, Abs}
+use Rattle.ot_logic.specs.Hol.{same_var, inst_by, inst_all, close_at, bind, IsFree}
 use Rattle.ot_laws.proofs.Tests.{Tells, same_var-is, var_cases}
 
 module _ {N : Type 0} (alphabet : Alphabet N) where

@@ -4,13 +4,14 @@ use Rattle.std.specs.Bool.{Decides}
 use Rattle.std.proofs.Common.{◌≡◌, Bool, true, false, List, [], ◌∷◌, Option, Some, None, refl, ap, inl, inr, ◌⊎◌}
 use Rattle.std.proofs.lemmas.Bool.Decides.{Decides-and, Decides-or, Decides-like, Decides-eqb, not_from_Decides}
 use Rattle.std.proofs.lemmas.Option.{same_Some}
-use Rattle.ot_plain.specs.Names.{same_name-Decides}
-use Rattle.ot_plain.specs.Naming.{names, numbers}
-use Rattle.ot_plain.specs.Trees.{Alphabet, Ty, Tys, TyVar, TyOp, NoTys, MoreTys, Variable, Tm}
-use Rattle.ot_plain.specs.Trees.{Free, Con, Bound, App, Abs, Named, NVar, NConst, NApp, NAbs}
-use Rattle.ot_plain.specs.Hol.{same_ty, same_tys, same_var, same_tm, same_named, type_in}
-use Rattle.ot_plain.specs.Hol.{HasType, IsFree, is_free, IsFreeInSome, is_free_in_some}
-use Rattle.ot_plain.specs.Rules.{has_type}
+use Rattle.ot_logic.specs.Names.{same_name-Decides}
+use Rattle.ot_logic.specs.Naming.{names, numbers}
+use Rattle.ot_logic.specs.Trees.{Alphabet, Ty, Tys, TyVar, TyOp, NoTys, MoreTys, Variable, Tm}
+use Rattle.ot_logic.specs.Trees.{Free, Con, Bound, App, Abs, Named, NVar, NConst, NApp, NAbs}
+use Rattle.ot_logic.specs.Hol.{same_ty, same_tys, same_var, same_tm, type_in, HasType}
+use Rattle.ot_logic.specs.Hol.{IsFree, is_free, IsFreeInSome, is_free_in_some}
+use Rattle.ot_logic.specs.NamedTerms.{same_named}
+use Rattle.ot_logic.specs.Rules.{has_type}
 
 -- the test of names is equality
 abbrev pub Tells : {N : Type 0} → Alphabet N → Type 0

@@ -1,11 +1,11 @@
 -- Theorems, as assumptions and definitions grow.
 use Rattle.std.specs.Prelude.{slice_get}
 use Rattle.std.proofs.Common.{◌≡◌, ℕ, List, [], ◌∷◌, ◌++◌, length, Some, sym, subst}
-use Rattle.ot_plain.specs.Lists.{AreDistinct}
-use Rattle.ot_plain.specs.Table.{Extends}
-use Rattle.ot_plain.specs.Trees.{Alphabet, Sequent, Definition}
-use Rattle.ot_plain.specs.Hol.{IsSequent, theorems, IsFine, Assumption, Defined}
-use Rattle.ot_plain.proofs.InternedLemmas.{slice_get-last}
+use Rattle.ot_logic.specs.Lists.{AreDistinct}
+use Rattle.ot_logic.specs.Table.{Extends}
+use Rattle.ot_logic.specs.Trees.{Alphabet, Sequent, Definition}
+use Rattle.ot_logic.specs.Hol.{IsSequent, theorems, IsFine, Assumption, Defined}
+use Rattle.ot_logic.proofs.InternedLemmas.{slice_get-last}
 use Rattle.ot_laws.specs.Theorem.{IsTheorem}
 use Rattle.ot_laws.proofs.Tests.{Tells}
 use Rattle.ot_laws.proofs.Grown.{grown-derivable}

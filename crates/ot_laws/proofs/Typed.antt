@@ -2,12 +2,13 @@
 use Rattle.std.specs.Prelude.{slice_get}
 use Rattle.std.specs.List.{AllByRecursion}
 use Rattle.std.proofs.Common.{◌≡◌, ℕ, List, [], ◌∷◌, ◌++◌, refl, sym, ap, ◌∙◌, inl, inr, map, Some}
-use Rattle.ot_plain.specs.Lists.{IsPart}
-use Rattle.ot_plain.specs.Trees.{Alphabet, Ty, Variable, Tm, App, Abs, Named, Sequent, Definition}
-use Rattle.ot_plain.specs.Hol.{fun_ty, bool_ty, TypeMap, type_at, inst, HasType, type_in, TermMap, term_at}
-use Rattle.ot_plain.specs.Hol.{inst_var, subst_tm, close, opened, equation, minus, nameless, named_type}
-use Rattle.ot_plain.specs.Hol.{IsTyped, IsSequent, theorems, Derivable, Refl, Assume, EqMp, AbsThm, AppThm}
-use Rattle.ot_plain.specs.Hol.{DeductAntisym, BetaConv, Subst, Assumption, Defined, SameSet}
+use Rattle.ot_logic.specs.Lists.{IsPart}
+use Rattle.ot_logic.specs.Trees.{Alphabet, Ty, Variable, Tm, App, Abs, Named, Sequent, Definition}
+use Rattle.ot_logic.specs.Hol.{fun_ty, bool_ty, TypeMap, type_at, inst, HasType, type_in, TermMap}
+use Rattle.ot_logic.specs.Hol.{term_at, inst_var, subst_tm, close, opened, equation, minus, IsTyped}
+use Rattle.ot_logic.specs.Hol.{IsSequent, theorems, Derivable, Refl, Assume, EqMp, AbsThm, AppThm}
+use Rattle.ot_logic.specs.Hol.{DeductAntisym, BetaConv, Subst, Assumption, Defined, SameSet}
+use Rattle.ot_logic.specs.NamedTerms.{nameless, named_type}
 use Rattle.ot_laws.specs.Theorem.{AreSequents}
 use Rattle.ot_laws.proofs.Tests.{Tells, var_cases}
 use Rattle.ot_laws.proofs.Typing.{app-typed, applied-some, abs-some, type-bind}

@@ -6,13 +6,13 @@ use Rattle.std.proofs.Common.{length, Option, Some, None, refl, sym, ap, ◌∙�
 use Rattle.std.proofs.lemmas.Bool.{and_parts}
 use Rattle.std.proofs.lemmas.Bool.Decides.{nat_tests}
 use Rattle.std.proofs.lemmas.Option.{none-some, same_Some, slice_get-map, slice_get_within}
-use Rattle.ot_plain.specs.Trees.{Alphabet, Ty, TyVar, TyOp, NoTys, MoreTys, Variable, Tm}
-use Rattle.ot_plain.specs.Trees.{Free, Con, Bound, App, Abs, Named, NVar, NConst, NApp, NAbs}
-use Rattle.ot_plain.specs.Hol.{same_ty, fun_ty, as_fun_ty, inst_by, close_at, open_at, bind, IsFree}
-use Rattle.ot_plain.specs.Hol.{result_ty, applied, type_in, type_of, bool_ty, HasType, IsWellTyped, IsWithin}
-use Rattle.ot_plain.specs.Hol.{depth_tm, nameless, place, at_place, nameless_in, named_type, named_depth}
-use Rattle.ot_plain.proofs.TableLemmas.{slice_get-append_left}
-use Rattle.ot_plain.proofs.InternedLemmas.{slice_get-last}
+use Rattle.ot_logic.specs.Trees.{Alphabet, Ty, TyVar, TyOp, NoTys, MoreTys, Variable, Tm}
+use Rattle.ot_logic.specs.Trees.{Free, Con, Bound, App, Abs, Named, NVar, NConst, NApp, NAbs}
+use Rattle.ot_logic.specs.Hol.{same_ty, fun_ty, as_fun_ty, inst_by, close_at, open_at, bind, IsFree, result_ty}
+use Rattle.ot_logic.specs.Hol.{applied, type_in, type_of, bool_ty, HasType, IsWellTyped, IsWithin, depth_tm}
+use Rattle.ot_logic.specs.NamedTerms.{nameless, place, at_place, nameless_in, named_type, named_depth}
+use Rattle.ot_logic.proofs.TableLemmas.{slice_get-append_left}
+use Rattle.ot_logic.proofs.InternedLemmas.{slice_get-last}
 use Rattle.ot_laws.proofs.Tests.{Tells, cases_of, same_ty-is, var_cases}
 use Rattle.ot_laws.proofs.Named.{nameless_in-nil}
 use Rattle.ot_laws.proofs.Opened.{place_below}

@@ -1,15 +1,15 @@
 -- What the definitions of the logic imply, for an alphabet of names.
 use Rattle.std.specs.Prelude.{◌≡◌, ◌↔◌, ◌≤◌, List, [], ◌∷◌, ◌++◌, length, Some, IsTrue, IfOk, ◌≢◌}
-use Rattle.ot_plain.specs.Lists.{IsMember, IsPart, IsSameSet, AreDistinct}
-use Rattle.ot_plain.specs.Trees.{Alphabet, Ty, Tys, TyOp, Variable, Tm, App, Abs, Named, Sequent, Definition}
-use Rattle.ot_plain.specs.Hol.{TypeMap, TermMap, inst, is_shallow_ty, same_ty, same_var, type_in, HasType}
-use Rattle.ot_plain.specs.Hol.{IsWellTyped, close, opened, subst_tm, IsFree, is_free, IsFreeInSome}
-use Rattle.ot_plain.specs.Hol.{is_free_in_some, is_shallow, nameless, nameless_in, IsFreeIn, named_type}
-use Rattle.ot_plain.specs.Hol.{same_named, parts, size, same_tm, equation, as_equation, minus, is_in, union}
-use Rattle.ot_plain.specs.Hol.{once_each, same_sequent, IsSequent, IsTyped, Derivable, IsNext, Accepted}
-use Rattle.ot_plain.specs.Rules.{has_type, op_rule, app_rule, abs_rule, refl_rule, assume_rule}
-use Rattle.ot_plain.specs.Rules.{eq_mp_rule, abs_thm_rule, app_thm_rule, deduct_antisym_rule}
-use Rattle.ot_plain.specs.Rules.{beta_conv_rule, subst_rule, sym_rule, trans_rule, prove_hyp_rule}
+use Rattle.ot_logic.specs.Lists.{IsMember, IsPart, IsSameSet, AreDistinct}
+use Rattle.ot_logic.specs.Trees.{Alphabet, Ty, Tys, TyOp, Variable, Tm, App, Abs, Named, Sequent, Definition}
+use Rattle.ot_logic.specs.Hol.{TypeMap, TermMap, inst, is_shallow_ty, same_ty, same_var, type_in, HasType}
+use Rattle.ot_logic.specs.Hol.{IsWellTyped, close, opened, subst_tm, IsFree, is_free, IsFreeInSome}
+use Rattle.ot_logic.specs.Hol.{is_free_in_some, is_shallow, same_tm, equation, as_equation, minus, is_in}
+use Rattle.ot_logic.specs.Hol.{union, once_each, same_sequent, IsSequent, IsTyped, Derivable, IsNext, Accepted}
+use Rattle.ot_logic.specs.NamedTerms.{nameless, nameless_in, IsFreeIn, named_type, same_named, parts, size}
+use Rattle.ot_logic.specs.Rules.{has_type, op_rule, app_rule, abs_rule, refl_rule, assume_rule}
+use Rattle.ot_logic.specs.Rules.{eq_mp_rule, abs_thm_rule, app_thm_rule, deduct_antisym_rule}
+use Rattle.ot_logic.specs.Rules.{beta_conv_rule, subst_rule, sym_rule, trans_rule, prove_hyp_rule}
 use Rattle.ot_laws.specs.Limits.{is_shallow_named}
 use Rattle.ot_laws.specs.Theorem.{IsTheorem, AreSequents}
 use Rattle.ot_laws.specs.Walk.{NamedMap, nameless_map, BinderRule, apply_by, Picks}

@@ -1,8 +1,8 @@
 -- What the conditions of definitions are for: what passes them may be defined next.
 use Rattle.std.specs.Prelude.{◌≡◌, ◌↔◌, List, map, Ok}
-use Rattle.ot_plain.specs.Lists.{IsMember}
-use Rattle.ot_plain.specs.Trees.{Alphabet, Variable, Tm, Sequent, Symbol, Definition, ConDef, ListDef, TyDef}
-use Rattle.ot_plain.specs.Hol.{IsWellTyped, IsNext, defined, used}
+use Rattle.ot_logic.specs.Lists.{IsMember}
+use Rattle.ot_logic.specs.Trees.{Alphabet, Variable, Tm, Sequent, Symbol, Definition, ConDef, ListDef, TyDef}
+use Rattle.ot_logic.specs.Hol.{IsWellTyped, IsNext, defined, used}
 use Rattle.ot_laws.specs.Theorem.{IsTheorem}
 use Rattle.ot_laws.specs.Conditions.{checked_const, checked_list, checked_type}
 

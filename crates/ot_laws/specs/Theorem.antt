@@ -1,8 +1,8 @@
 -- Sequents that are kept: assumptions and theorems.
 use Rattle.std.specs.Prelude.{◌≡◌, ℕ, List, Some, slice_get}
-use Rattle.ot_plain.specs.Lists.{AreDistinct}
-use Rattle.ot_plain.specs.Trees.{Alphabet, Sequent, Definition}
-use Rattle.ot_plain.specs.Hol.{Derivable, IsSequent}
+use Rattle.ot_logic.specs.Lists.{AreDistinct}
+use Rattle.ot_logic.specs.Trees.{Alphabet, Sequent, Definition}
+use Rattle.ot_logic.specs.Hol.{Derivable, IsSequent}
 
 module _ {N : Type 0} (alphabet : Alphabet N) where
   -- derivable over these assumptions and definitions, of propositions alone, and no hypothesis twice

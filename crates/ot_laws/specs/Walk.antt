@@ -1,8 +1,8 @@
 -- Substitution on named terms: a walk that renames each binder by some rule.
 use Rattle.std.specs.Prelude.{◌≡◌, ◌≢◌, List, [], ◌∷◌, cond, map}
-use Rattle.ot_plain.specs.Trees.{Alphabet, Variable, Named, NVar, NConst, NApp, NAbs}
-use Rattle.ot_plain.specs.Hol.{same_var, TypeMap, TermMap, inst, inst_var}
-use Rattle.ot_plain.specs.Hol.{IsFree, nameless, IsFreeIn, Renaming, image}
+use Rattle.ot_logic.specs.Trees.{Alphabet, Variable, Named, NVar, NConst, NApp, NAbs}
+use Rattle.ot_logic.specs.Hol.{same_var, TypeMap, TermMap, inst, inst_var, IsFree}
+use Rattle.ot_logic.specs.NamedTerms.{nameless, IsFreeIn, Renaming, image}
 
 module _ {N : Type 0} (alphabet : Alphabet N) where
   -- the variable part of a substitution, of named terms

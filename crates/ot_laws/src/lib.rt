@@ -2,9 +2,9 @@
 #![tactic(auto)]
 
 ghost use Rattle.std.specs.Prelude.{ℕ, List};
-ghost use Rattle.ot_plain.specs.Naming.{names, numbers};
-ghost use Rattle.ot_plain.specs.Trees.{Sequent, Definition};
-ghost use Rattle.ot_plain.specs.Names.{Name};
+ghost use Rattle.ot_logic.specs.Naming.{names, numbers};
+ghost use Rattle.ot_logic.specs.Trees.{Sequent, Definition};
+ghost use Rattle.ot_logic.specs.Names.{Name};
 ghost use Rattle.ot_laws.specs.Next.{ConstantsAreNext, ListsAreNext, TypesAreNext};
 ghost use Rattle.ot_laws.specs.Laws.{NamelessForm, NamelessFree, NamelessTyping, NamelessLimit};
 ghost use Rattle.ot_laws.specs.Laws.{NamedSubstitution, BindersCanBePicked, BetaIsSubstitution};

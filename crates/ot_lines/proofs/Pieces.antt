@@ -8,7 +8,7 @@ use Rattle.std.proofs.lemmas.Bool.Decides.{eqb_tells}
 use Rattle.std.proofs.lemmas.List.{take_all, take-append-le, drop-append-le, length-append}
 use Rattle.std.proofs.lemmas.Simd.{run_in_chunk_fails, run_in_chunk_stops}
 use Rattle.std.proofs.Math.ListN.{drop_of_length-le, get_or-append}
-use Rattle.ot_plain.specs.Lists.{IsMember}
+use Rattle.ot_logic.specs.Lists.{IsMember}
 use Rattle.ot_lines.specs.Pieces.{onto_first, pieces, IsWhole, IsOpen, AreWhole, IsCut, IsOpenTo, EndsAt}
 
 -- ---- the pieces are one cut

@@ -1,7 +1,7 @@
 -- The namespaces that a theory file shows, from its text and its tags.
 use Rattle.std.specs.Prelude.{Option, Some, None, Ok, IfSome}
 use Rattle.std.proofs.Common.{◌≡◌, ◌∙◌, ℕ, List, ap, refl, sym}
-use Rattle.ot_plain.specs.Names.{Name}
+use Rattle.ot_logic.specs.Names.{Name}
 use Rattle.ot_theory.specs.Theory.{TheoryText, theory}
 use Rattle.ot_kernel.specs.State as kernel
 use Rattle.ot_link.specs.Stops.{Linked, Setting, answered, ◌>>=◌}

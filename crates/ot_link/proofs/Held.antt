@@ -5,7 +5,7 @@ use Rattle.std.specs.List.{All}
 use Rattle.std.specs.HashMap.{HashMap, get_by}
 use Rattle.std.proofs.Common.{◌≡◌, ◌∙◌, ℕ, List, [], ◌∷◌, map, Bool, true, false, cond, refl, sym, ap, subst, arith}
 use Rattle.std.proofs.lemmas.List.Elements.{All-head, All-tail}
-use Rattle.ot_plain.specs.Trees.{Bound}
+use Rattle.ot_logic.specs.Trees.{Bound}
 use Rattle.ot_machine.specs.Meaning.{export_of, IsRun, IsExportIn, Grows}
 use Rattle.ot_machine.specs.declared.machine.Export.{Export}
 use Rattle.ot_machine.specs.declared.session.Session.{Session}

@@ -4,9 +4,9 @@ use Rattle.std.specs.List.{All}
 use Rattle.std.proofs.Common.{◌≡◌, ◌∙◌, ℕ, List, [], ◌∷◌, length, map, refl, ap, arith}
 use Rattle.std.proofs.lemmas.List.{map-append}
 use Rattle.std.proofs.lemmas.List.Elements.{All-nil, All-head, All-tail, All-cons, All-append}
-use Rattle.ot_plain.specs.Naming.{names, numbers, IsNameTable}
-use Rattle.ot_plain.specs.Trees.{Bound}
-use Rattle.ot_plain.proofs.TableLemmas.{get_or-IsInjective}
+use Rattle.ot_logic.specs.Naming.{names, numbers, IsNameTable}
+use Rattle.ot_logic.specs.Trees.{Bound}
+use Rattle.ot_logic.proofs.TableLemmas.{get_or-IsInjective}
 use Rattle.ot_interp.specs.Interpretation.{Interpretation, map_interpretation, after, IsWithin}
 use Rattle.ot_interp.proofs.Renaming.{after-at}
 use Rattle.ot_kernel.specs.State as kernel

@@ -2,10 +2,10 @@
 use Rattle.std.specs.Prelude.{◌<◌, Some}
 use Rattle.std.proofs.Common.{◌≡◌, ◌∙◌, ℕ, List, [], ◌∷◌, length, false, sym, ap, subst, arith}
 use Rattle.std.proofs.lemmas.List.{map-append}
-use Rattle.ot_plain.specs.Names.{Name}
-use Rattle.ot_plain.specs.Naming.{names, numbers, IsNameTable}
-use Rattle.ot_plain.specs.Reading.{name_read}
-use Rattle.ot_plain.proofs.TableLemmas.{get_or-IsInjective, get_or-Extends}
+use Rattle.ot_logic.specs.Names.{Name}
+use Rattle.ot_logic.specs.Naming.{names, numbers, IsNameTable}
+use Rattle.ot_logic.specs.Reading.{name_read}
+use Rattle.ot_logic.proofs.TableLemmas.{get_or-IsInjective, get_or-Extends}
 use Rattle.ot_interp.specs.Interpretation.{Interpretation, map_interpretation, map_pairs, IsWithin}
 use Rattle.ot_interp.proofs.Renaming.{is_held-at, IsWithin-more, map_interpretation-agree}
 use Rattle.ot_kernel.specs.State as kernel

@@ -4,10 +4,10 @@ use Rattle.std.specs.List.{AllByRecursion, filter, cons_option}
 use Rattle.std.specs.Map.{lookup}
 use Rattle.std.proofs.Common.{◌≡◌, ℕ, List, [], ◌∷◌, map, Bool, true, false, cond, refl, sym, ap, subst}
 use Rattle.std.proofs.lemmas.Option.{none-some, same_Some}
-use Rattle.ot_plain.specs.Names.{Name, same_name}
-use Rattle.ot_plain.specs.Lists.{IsMember}
-use Rattle.ot_plain.specs.Naming.{names}
-use Rattle.ot_plain.specs.Reading.{name_read}
+use Rattle.ot_logic.specs.Names.{Name, same_name}
+use Rattle.ot_logic.specs.Lists.{IsMember}
+use Rattle.ot_logic.specs.Naming.{names}
+use Rattle.ot_logic.specs.Reading.{name_read}
 use Rattle.ot_interp.specs.Interpretation.{renamed, InnerThenOuter}
 use Rattle.ot_theory.specs.Theory.{TagText}
 use Rattle.ot_theory.specs.Values.{key_of}
@@ -22,7 +22,7 @@ use Rattle.ot_machine.specs.Writable.{IsWritable}
 use Rattle.ot_link.specs.Renaming.{Renaming, renaming_by, renaming_at, renamings_of, pairs_of, interpretation_of}
 use Rattle.ot_link.specs.Lawful.{BlocksAreNaming}
 use Rattle.ot_link.proofs.Saying.{said-of}
-use Rattle.ot_plain.proofs.Members.{IsMember-right}
+use Rattle.ot_logic.proofs.Members.{IsMember-right}
 
 -- what a symbol becomes can be said by a line
 pub record GivesWritable (r : Renaming) : Type 0 where

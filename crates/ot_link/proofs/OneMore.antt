@@ -10,10 +10,10 @@ use Rattle.std.proofs.lemmas.List.{map-append, take-append-drop}
 use Rattle.std.proofs.lemmas.List.Elements.{filter-append, filter_map-append}
 use Rattle.std.proofs.lemmas.Bool.{false_from_ne_true}
 use Rattle.std.proofs.lemmas.Option.{none-some, same_Some}
-use Rattle.ot_plain.specs.Names.{Name, same_name, same_name-Decides}
-use Rattle.ot_plain.specs.Lists.{IsMember, AreDistinct}
-use Rattle.ot_plain.specs.Naming.{names}
-use Rattle.ot_plain.specs.Reading.{name_read}
+use Rattle.ot_logic.specs.Names.{Name, same_name, same_name-Decides}
+use Rattle.ot_logic.specs.Lists.{IsMember, AreDistinct}
+use Rattle.ot_logic.specs.Naming.{names}
+use Rattle.ot_logic.specs.Reading.{name_read}
 use Rattle.ot_interp.specs.Interpretation.{Interpretation, is_held}
 use Rattle.ot_blocks.proofs.Collecting.{map_more}
 use Rattle.ot_theory.specs.Answers.{tag_of, tags_of}

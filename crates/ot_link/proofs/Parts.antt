@@ -1,7 +1,7 @@
 -- A link in parts: what stops a part stops the whole.
 use Rattle.std.specs.Prelude.{Option, Some, None, Result, Ok, Err, IfSome, string_bytes}
 use Rattle.std.proofs.Common.{◌≡◌, ◌∙◌, ℕ, List, [], ◌∷◌, ◌++◌, inl, inr, refl}
-use Rattle.ot_plain.specs.Lists.{IsMember}
+use Rattle.ot_logic.specs.Lists.{IsMember}
 use Rattle.ot_kernel.specs.State as kernel
 use Rattle.ot_link.specs.Stops.{Stop, Linked, go_on, ◌>>=◌}
 use Rattle.ot_link.specs.Answers.{Stops, Comes}

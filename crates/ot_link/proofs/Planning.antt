@@ -1,7 +1,7 @@
 -- The plan of a theory file, from its parts.
 use Rattle.std.specs.Prelude.{Result, Ok, Err}
 use Rattle.std.proofs.Common.{◌≡◌, ◌∙◌, ℕ, List, ap}
-use Rattle.ot_plain.specs.Answers.{◌>>=◌}
+use Rattle.ot_logic.specs.Answers.{◌>>=◌}
 use Rattle.ot_theory.specs.Theory.{TheoryText, theory}
 use Rattle.ot_blocks.specs.Structure.{PlanText, plan}
 use Rattle.ot_link.specs.Stops.{Stop}

@@ -1,10 +1,10 @@
 -- How the interpretation of a block grows, one statement at a time.
 use Rattle.std.specs.Prelude.{◌≡◌, List, [], ◌∷◌, ◌++◌, Bool, false, Option, Some, None}
 use Rattle.std.specs.List.{AllByRecursion, filter_map}
-use Rattle.ot_plain.specs.Names.{Name}
-use Rattle.ot_plain.specs.Lists.{IsMember, AreDistinct}
-use Rattle.ot_plain.specs.Naming.{names}
-use Rattle.ot_plain.specs.Trees.{Alphabet}
+use Rattle.ot_logic.specs.Names.{Name}
+use Rattle.ot_logic.specs.Lists.{IsMember, AreDistinct}
+use Rattle.ot_logic.specs.Naming.{names}
+use Rattle.ot_logic.specs.Trees.{Alphabet}
 use Rattle.ot_interp.specs.Interpretation.{Interpretation, is_held}
 use Rattle.ot_theory.specs.Theory.{TagText, renamed}
 use Rattle.ot_theory.specs.Values.{key_of}

@@ -2,11 +2,11 @@
 use Rattle.std.specs.Prelude.{◌≡◌, ◌≢◌, ◌≤◌, ℕ, List, map, Option, Some, Result, Ok, Err, Vec, IfSome, string_bytes}
 use Rattle.std.specs.Global.{Global}
 use Rattle.std.specs.List.{All}
-use Rattle.ot_plain.specs.Names.{Name}
-use Rattle.ot_plain.specs.Lists.{IsMember}
-use Rattle.ot_plain.specs.Faults as faults
-use Rattle.ot_plain.specs.declared.limits.Limits.{Limits}
-use Rattle.ot_io.specs.Causes.{Rose}
+use Rattle.ot_logic.specs.Names.{Name}
+use Rattle.ot_logic.specs.Lists.{IsMember}
+use Rattle.ot_logic.specs.Faults as faults
+use Rattle.ot_logic.specs.declared.limits.Limits.{Limits}
+use Rattle.ot_io.specs.Causes.{CountRose}
 use Rattle.ot_io.specs.Folder.{Folder}
 use Rattle.ot_kernel.specs.State as kernel
 use Rattle.ot_machine.specs.Faults.{fault_of}
@@ -81,9 +81,9 @@ NamesSymbolIn k link.Memory = Unit {0}
 
 -- a missing file is counted, and so is a failure, which is one of the path that was asked for, where that is known
 abbrev pub HasCause : LinkFault → ℕ → ℕ → ℕ → ℕ → Option (List ℕ) → Type 0
-HasCause (link.NoFile path) misses misses' faults faults' at = Rose misses misses'
+HasCause (link.NoFile path) misses misses' faults faults' at = CountRose misses misses'
 HasCause (link.ReadFault path) misses misses' faults faults' at =
-    Rose faults faults' × IfSome at (λ asked. string_bytes path ≡ asked)
+    CountRose faults faults' × IfSome at (λ asked. string_bytes path ≡ asked)
 HasCause (link.Article path line fault) misses misses' faults faults' at = Unit {0}
 HasCause (link.Theory path line fault) misses misses' faults faults' at = Unit {0}
 HasCause (link.Structure path line fault) misses misses' faults faults' at = Unit {0}
@@ -107,5 +107,5 @@ HasFailed (link.Theory path line fault) faults faults' = Unit {0}
 HasFailed (link.Structure path line fault) faults faults' = Unit {0}
 HasFailed (link.TheoryTooLarge path) faults faults' = Unit {0}
 HasFailed (link.NoFile path) faults faults' = Unit {0}
-HasFailed (link.ReadFault path) faults faults' = Rose faults faults'
+HasFailed (link.ReadFault path) faults faults' = CountRose faults faults'
 HasFailed link.Memory faults faults' = Unit {0}

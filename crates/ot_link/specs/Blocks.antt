@@ -1,6 +1,6 @@
 -- The run of a block.
 use Rattle.std.specs.Prelude.{ℕ, List, [], ◌∷◌, ◌++◌, map, Option, Some, None, Result, Ok, Err, if◌then◌else◌}
-use Rattle.ot_plain.specs.Naming.{names}
+use Rattle.ot_logic.specs.Naming.{names}
 use Rattle.ot_interp.specs.Interpretation.{after}
 use Rattle.ot_scan.specs.Lines.{lines_of}
 use Rattle.ot_theory.specs.Theory.{TagText, BlockText}

@@ -1,6 +1,6 @@
 -- A theory file before its blocks run.
 use Rattle.std.specs.Prelude.{ℕ, List, Result, Ok, Err, length, nat_le}
-use Rattle.ot_plain.specs.Answers.{◌>>=◌, unless}
+use Rattle.ot_logic.specs.Answers.{◌>>=◌, unless}
 use Rattle.ot_theory.specs.Theory.{BlockText, theory}
 use Rattle.ot_theory.specs.declared.fault.TheoryFault.{TheoryFault}
 use Rattle.ot_blocks.specs.Structure.{PlanText, plan}

@@ -1,8 +1,8 @@
 -- The interpretation that a block writes.
 use Rattle.std.specs.Prelude.{ℕ, List, map, filter_map, Option, Some, None}
 use Rattle.std.specs.List.{filter}
-use Rattle.ot_plain.specs.Names.{Name}
-use Rattle.ot_plain.specs.Reading.{name_read}
+use Rattle.ot_logic.specs.Names.{Name}
+use Rattle.ot_logic.specs.Reading.{name_read}
 use Rattle.ot_interp.specs.Interpretation.{Interpretation}
 use Rattle.ot_theory.specs.Theory.{TagText}
 use Rattle.ot_theory.specs.Values.{key_of}

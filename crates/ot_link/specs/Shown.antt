@@ -2,8 +2,8 @@
 use Rattle.std.specs.Prelude.{ℕ, cond, List, [], ◌∷◌, codes, Option, Some, None, Ok}
 use Rattle.std.specs.List.{flat_map}
 use Rattle.std.specs.Str.{bytes_eq}
-use Rattle.ot_plain.specs.Names.{Name}
-use Rattle.ot_plain.specs.Reading.{name_read}
+use Rattle.ot_logic.specs.Names.{Name}
+use Rattle.ot_logic.specs.Reading.{name_read}
 use Rattle.ot_theory.specs.Theory.{TagText, theory}
 use Rattle.ot_link.specs.Stops.{Linked, Setting, answered, ◌>>=◌}
 use Rattle.ot_link.specs.Planned.{in_theory}

@@ -1,9 +1,9 @@
 -- How a link stops, and the files that it needs.
 use Rattle.std.specs.Prelude.{ℕ, List, [], ◌∷◌, ◌++◌, Result, Ok, Err}
-use Rattle.ot_plain.specs.Names.{Name}
-use Rattle.ot_plain.specs.Faults.{Fault}
-use Rattle.ot_plain.specs.Answers.{some_or}
-use Rattle.ot_plain.specs.declared.limits.Limits.{Limits}
+use Rattle.ot_logic.specs.Names.{Name}
+use Rattle.ot_logic.specs.Faults.{Fault}
+use Rattle.ot_logic.specs.Answers.{some_or}
+use Rattle.ot_logic.specs.declared.limits.Limits.{Limits}
 use Rattle.ot_io.specs.Folder.{Folder, bytes_at}
 use Rattle.ot_theory.specs.declared.fault.TheoryFault.{TheoryFault}
 use Rattle.ot_blocks.specs.declared.fault.StructureFault.{StructureFault}

@@ -1,6 +1,6 @@
 //! Articles as they are run in a context.
 ghost use Rattle.std.specs.Prelude.{◌≡◌, ◌≢◌, ◌≤◌, ◌^◌, ℕ, List, Some, Err, IfOk, IfErr, IfSome, string_bytes};
-ghost use Rattle.ot_io.specs.Causes.{Rose};
+ghost use Rattle.ot_io.specs.Causes.{CountRose};
 ghost use Rattle.ot_io.specs.Folder.{Folder};
 ghost use Rattle.ot_io.specs.Keeping.{KeepsSource, KeepsFiles};
 ghost use Rattle.ot_scan.specs.Lines.{lines_of};
@@ -20,8 +20,8 @@ use crate::setting::Setting;
 use ot_interp::Interp;
 use ot_io::{Files, OpenFault, Source};
 use ot_kernel::Places;
+use ot_logic::Limits;
 use ot_machine::{ArticleFault, Context, Export, Fault, Machine, Session, fresh_law, lines_law};
-use ot_plain::Limits;
 use std::alloc::Global;
 
 /// Runs the article of a path, and gives its exports.
@@ -143,7 +143,7 @@ fn run_source<S: Source>(
         (record { article = fresh_article; run = run_of session.old }))) }
     ensures left { LeavesExports NamesSymbolInArticle result session.old session.new }
     ensures apart { (line : ℕ) → result ≢ Err (ArticleFault.At line Fault.Memory) }
-    ensures cause { result ≡ Err ArticleFault.ReadFault → Rose (S.faults source.old) (S.faults source.new) }
+    ensures cause { result ≡ Err ArticleFault.ReadFault → CountRose (S.faults source.old) (S.faults source.new) }
     ensures kept { KeepsSource S.folder S.faults S.misses S.at source.old source.new }
 {
     fresh_law();

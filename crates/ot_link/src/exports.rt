@@ -8,8 +8,8 @@ ghost use Rattle.ot_link.specs.Holding.{given_to, held_at};
 ghost use Rattle.ot_link.specs.Lawful.{AreLawfulExports, AreLawfulOnce};
 
 use ot_kernel::Places;
+use ot_logic::Memory;
 use ot_machine::{Export, Given, Session};
-use ot_plain::Memory;
 use std::alloc::Global;
 use std::collections::HashMap;
 

@@ -1,6 +1,6 @@
 use ot_blocks::StructureFault;
+use ot_logic::Memory as NoMemory;
 use ot_machine::Fault;
-use ot_plain::Memory as NoMemory;
 use ot_theory::TheoryFault;
 use std::alloc::{AllocError, AllocFailed};
 

@@ -13,8 +13,8 @@ use crate::setting::Setting;
 use ot_interp::Interp;
 use ot_io::Files;
 use ot_kernel::Places;
+use ot_logic::Limits;
 use ot_machine::{Context, Export, Session, fresh_law};
-use ot_plain::Limits;
 use std::alloc::Global;
 
 /// Runs a theory file, with all articles and packages that it asks for, and gives the exports of its block `main`. By

@@ -1,7 +1,7 @@
 //! What the `interpret:` statements of a block rename.
 ghost use Rattle.std.specs.Prelude.{◌≡◌, ◌<◌, ℕ, Some, false, length, IfOk, OnOk};
-ghost use Rattle.ot_plain.specs.Naming.{numbers};
-ghost use Rattle.ot_plain.specs.Reading.{name_read};
+ghost use Rattle.ot_logic.specs.Naming.{numbers};
+ghost use Rattle.ot_logic.specs.Reading.{name_read};
 ghost use Rattle.ot_interp.specs.Interpretation.{map_interpretation, IsWithin};
 ghost use Rattle.ot_kernel.specs.State.{name_at};
 ghost use Rattle.ot_machine.specs.Meaning.{run_of, IsRun, Grows};
@@ -12,8 +12,8 @@ ghost use Rattle.ot_link.specs.Adding.{AreRight, is_held_by, with_pair, added, I
 ghost use Rattle.ot_link.specs.Lawful.{BlocksAreNaming};
 
 use ot_interp::{Interp, after_law};
+use ot_logic::{Memory, Name, NameFault, NameId};
 use ot_machine::{Session, lines_law};
-use ot_plain::{Memory, Name, NameFault, NameId};
 use ot_theory::{Key, SymbolWord, Tag, key_of, one_interpretation, split_interpret};
 use std::alloc::Global;
 

@@ -1,4 +1,4 @@
-use ot_plain::Limits;
+use ot_logic::Limits;
 use std::alloc::Global;
 
 /// What stays the same through a link.

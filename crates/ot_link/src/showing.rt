@@ -11,7 +11,7 @@ use crate::fault::LinkFault;
 use crate::reading::{theory_at, theory_text};
 use crate::setting::Setting;
 use ot_io::Files;
-use ot_plain::{Limits, Memory, Name, NameFault};
+use ot_logic::{Limits, Memory, Name, NameFault};
 use ot_theory::Tag;
 use std::alloc::Global;
 

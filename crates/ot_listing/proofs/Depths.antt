@@ -1,8 +1,8 @@
 -- The parts of types and terms are nested less deep than the whole.
 use Rattle.std.specs.Prelude.{◌≡◌, ℕ, zero, suc, ◌<◌, ◌≤◌, List, [], ◌∷◌, length}
 use Rattle.std.proofs.Common.{ap, arith, get_or}
-use Rattle.ot_plain.specs.Naming.{names}
-use Rattle.ot_plain.specs.Hol.{depth_ty, depth_all}
+use Rattle.ot_logic.specs.Naming.{names}
+use Rattle.ot_logic.specs.Hol.{depth_ty, depth_all}
 use Rattle.ot_nodes.specs.Items.{Item, type_at, types_at}
 
 -- ---- types

@@ -3,10 +3,10 @@ use Rattle.std.specs.Prelude.{◌≡◌, ℕ, ◌+◌, ◌<◌, Bool, true, fals
 use Rattle.std.specs.Prelude.{◌∷◌, ◌++◌, length, map, is_some, codes, None, Some}
 use Rattle.std.specs.Global.{Vec}
 use Rattle.std.proofs.Common.{refl, sym, ◌∙◌, ap, arith, append_assoc, append-nil, get_or}
-use Rattle.ot_plain.specs.Names.{Name, spelled}
-use Rattle.ot_plain.specs.Naming.{names}
-use Rattle.ot_plain.specs.Trees.{Ty, TyOp, NoTys, MoreTys, Tm, App}
-use Rattle.ot_plain.specs.Hol.{as_fun_ty, fun_ty, as_equation, equation}
+use Rattle.ot_logic.specs.Names.{Name, spelled}
+use Rattle.ot_logic.specs.Naming.{names}
+use Rattle.ot_logic.specs.Trees.{Ty, TyOp, NoTys, MoreTys, Tm, App}
+use Rattle.ot_logic.specs.Hol.{as_fun_ty, fun_ty, as_equation, equation}
 use Rattle.ot_laws.proofs.Tests.{tells_names}
 use Rattle.ot_laws.proofs.Typing.{as_fun_ty-some, as_fun_ty-fun}
 use Rattle.ot_laws.proofs.Equations.{as_equation-some, as_equation-equation}

@@ -2,8 +2,8 @@
 use Rattle.std.specs.Prelude.{◌≡◌, ℕ, ◌+◌, ◌<◌, ◌≤◌, Bool, true, false, List, [], ◌∷◌, ◌++◌, map, length, codes}
 use Rattle.std.proofs.Common.{refl, sym, ◌∙◌, ap, append_assoc, drop, get_or}
 use Rattle.std.proofs.Math.ListN.{drop_of_length-le}
-use Rattle.ot_plain.specs.Names.{Name}
-use Rattle.ot_plain.specs.Trees.{Variable, Sequent, TyDef}
+use Rattle.ot_logic.specs.Names.{Name}
+use Rattle.ot_logic.specs.Trees.{Variable, Sequent, TyDef}
 use Rattle.ot_nodes.specs.Items.{Item, name_at}
 use Rattle.ot_nodes.specs.Changing.{variable_at}
 use Rattle.ot_nodes.specs.declared.node.VariableNode.{VariableNode}
@@ -13,7 +13,7 @@ use Rattle.ot_text.specs.Sections.{further_names, theorems_text, further_theorem
 use Rattle.ot_text.specs.Separated.{separator}
 use Rattle.ot_text.specs.Pages.{Printed, IsPut}
 use Rattle.ot_text.proofs.Putting.{Leaves, leaves-more, leaves-all, nothing}
-use Rattle.ot_plain.proofs.Elements.{drop-item}
+use Rattle.ot_logic.proofs.Elements.{drop-item}
 
 -- a constant and its variable
 abbrev pub pair_at : List Item → ℕ × VariableNode → Name × Variable Name

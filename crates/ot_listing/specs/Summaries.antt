@@ -1,7 +1,7 @@
 -- The printed text of what a log proves, over names: three sections.
 use Rattle.std.specs.Prelude.{true, ℕ, List, ◌++◌, map, codes}
-use Rattle.ot_plain.specs.Names.{Name}
-use Rattle.ot_plain.specs.Trees.{Sequent, Definition}
+use Rattle.ot_logic.specs.Names.{Name}
+use Rattle.ot_logic.specs.Trees.{Sequent, Definition}
 use Rattle.ot_nodes.specs.Items.{Item}
 use Rattle.ot_rules.specs.Statements.{sequent_at}
 use Rattle.ot_rules.specs.Accepting.{accepted_at}

@@ -6,14 +6,14 @@ use Rattle.std.proofs.Common.{◌≡◌, ◌<◌, inl, inr, ℕ, suc, true, List
 use Rattle.std.proofs.Common.{length, Ok, refl, sym, ap, subst, ◌∙◌, arith}
 use Rattle.std.proofs.lemmas.Bool.Decides.{nat_tests}
 use Rattle.std.proofs.lemmas.List.Elements.{All-nil, All-cons}
-use Rattle.ot_plain.specs.Names.{Name}
-use Rattle.ot_plain.specs.Naming.{names}
-use Rattle.ot_plain.specs.Trees.{Tm, Sequent, Definition}
-use Rattle.ot_plain.specs.Hol.{HasType, IsWellTyped, bool_ty}
-use Rattle.ot_plain.specs.Faults.{StackEmpty}
-use Rattle.ot_plain.specs.Answers.{unless}
-use Rattle.ot_plain.specs.declared.command.Cmd.{Cmd}
-use Rattle.ot_plain.specs.declared.command.Cmd.TheVariants as words
+use Rattle.ot_logic.specs.Names.{Name}
+use Rattle.ot_logic.specs.Naming.{names}
+use Rattle.ot_logic.specs.Trees.{Tm, Sequent, Definition}
+use Rattle.ot_logic.specs.Hol.{HasType, IsWellTyped, bool_ty}
+use Rattle.ot_logic.specs.Faults.{StackEmpty}
+use Rattle.ot_logic.specs.Answers.{unless}
+use Rattle.ot_logic.specs.declared.command.Cmd.{Cmd}
+use Rattle.ot_logic.specs.declared.command.Cmd.TheVariants as words
 use Rattle.ot_rules.specs.Limits.{AreWellTyped}
 use Rattle.ot_trace.specs.Origins.{Origin, Make, Define}
 use Rattle.ot_machine.specs.Objects.{Object, term, theorem}
@@ -28,7 +28,7 @@ use Rattle.ot_proof_log.proofs.Values.{value-kept}
 use Rattle.ot_values.specs.Steps.{Makes, origins_of}
 use Rattle.ot_words.specs.Recording.{HasResult}
 use Rattle.ot_log.specs.Keeping.{IsDefinable}
-use Rattle.ot_plain.proofs.Results.{bind-ok, same_Ok, unless-ok}
+use Rattle.ot_logic.proofs.Results.{bind-ok, same_Ok, unless-ok}
 
 -- ---- types
 

@@ -6,7 +6,7 @@ use Rattle.std.proofs.Common.{slice_get, slice_index_or, Some, refl, sym}
 use Rattle.std.proofs.Common.{ap, subst, ◌∙◌, arith}
 use Rattle.std.proofs.lemmas.Option.{get_or_from_slice_get}
 use Rattle.std.proofs.lemmas.List.Elements.{All-head, All-tail}
-use Rattle.ot_plain.specs.declared.command.Cmd.{Cmd}
+use Rattle.ot_logic.specs.declared.command.Cmd.{Cmd}
 use Rattle.ot_kernel.specs.State.{name_at}
 use Rattle.ot_trace.specs.Origins.{Origin, Number, Make, Define}
 use Rattle.ot_trace.specs.Origins.{MoreOrigins, map_origin, map_origins}
@@ -32,7 +32,7 @@ use Rattle.ot_log.specs.Keeping.{Puts, PutsDefinition, number_in, number_at}
 use Rattle.ot_log.specs.Keeping.{numbers_at}
 use Rattle.ot_log.specs.Working.{close}
 use Rattle.ot_log.specs.declared.writer.Writer.{Writer}
-use Rattle.ot_plain.specs.Answers.{◌>>=◌}
+use Rattle.ot_logic.specs.Answers.{◌>>=◌}
 use Rattle.ot_machine.specs.Makers.{maker}
 use Rattle.ot_log.proofs.Placed.{marked-holds, marked-writer}
 

@@ -4,14 +4,14 @@ use Rattle.std.specs.List.{All}
 use Rattle.std.proofs.Common.{◌≡◌, ◌≢◌, ℕ, suc, ◌<◌, List, [], ◌∷◌}
 use Rattle.std.proofs.Common.{map, length, get_or, slice_get, Option, None}
 use Rattle.std.proofs.Common.{Some, Ok, refl, sym, ap, subst, ◌∙◌, arith}
-use Rattle.ot_plain.specs.Names.{Name}
-use Rattle.ot_plain.specs.Naming.{names, name_of}
-use Rattle.ot_plain.specs.Hol.{theorems}
-use Rattle.ot_plain.specs.Faults.{StackEmpty}
-use Rattle.ot_plain.specs.Answers.{◌>>=◌, some_or}
-use Rattle.ot_plain.specs.declared.command.Cmd.{Cmd}
-use Rattle.ot_plain.proofs.Naming.{name_of-injective}
-use Rattle.ot_plain.proofs.TableLemmas.{Extends-refl}
+use Rattle.ot_logic.specs.Names.{Name}
+use Rattle.ot_logic.specs.Naming.{names, name_of}
+use Rattle.ot_logic.specs.Hol.{theorems}
+use Rattle.ot_logic.specs.Faults.{StackEmpty}
+use Rattle.ot_logic.specs.Answers.{◌>>=◌, some_or}
+use Rattle.ot_logic.specs.declared.command.Cmd.{Cmd}
+use Rattle.ot_logic.proofs.Naming.{name_of-injective}
+use Rattle.ot_logic.proofs.TableLemmas.{Extends-refl}
 use Rattle.ot_rules.specs.Statements.{sequent_at, HasStatement}
 use Rattle.ot_rules.specs.declared.statement.Statement.{Statement}
 use Rattle.ot_trace.specs.Origins.{Origin, Origins, Define, Outcome, map_origin}
@@ -37,8 +37,8 @@ use Rattle.ot_log.specs.Keeping.{IsWriter, Marks, Moves, PutsDefinition}
 use Rattle.ot_log.specs.declared.writer.Writer.{Writer}
 use Rattle.ot_log.proofs.Closed.{defined, step-origin}
 use Rattle.ot_log.proofs.Placed.{naming-is, origin-here, number-other, marked-holds, marked-writer, writer-grown}
-use Rattle.ot_plain.proofs.Elements.{slice_get-map}
-use Rattle.ot_plain.proofs.Results.{bind-ok, same_Ok, some_or-ok}
+use Rattle.ot_logic.proofs.Elements.{slice_get-map}
+use Rattle.ot_logic.proofs.Results.{bind-ok, same_Ok, some_or-ok}
 
 -- ---- what the theorems are
 

@@ -9,12 +9,12 @@ use Rattle.std.proofs.Common.{None, Some, refl, sym, ap, subst, ◌∙◌, arith
 use Rattle.std.proofs.lemmas.List.{length-set}
 use Rattle.std.proofs.lemmas.List.Elements.{All-weaker, All-push}
 use Rattle.std.proofs.lemmas.Bool.{cases_eq}
-use Rattle.ot_plain.specs.Names.{Name, same_name-Decides}
-use Rattle.ot_plain.specs.Naming.{names, name_of}
-use Rattle.ot_plain.specs.Table.{Extends}
-use Rattle.ot_plain.specs.Trees.{Sequent}
-use Rattle.ot_plain.proofs.Naming.{name_of-injective}
-use Rattle.ot_plain.proofs.TableLemmas.{slice_get-append_left}
+use Rattle.ot_logic.specs.Names.{Name, same_name-Decides}
+use Rattle.ot_logic.specs.Naming.{names, name_of}
+use Rattle.ot_logic.specs.Table.{Extends}
+use Rattle.ot_logic.specs.Trees.{Sequent}
+use Rattle.ot_logic.proofs.Naming.{name_of-injective}
+use Rattle.ot_logic.proofs.TableLemmas.{slice_get-append_left}
 use Rattle.ot_kernel.specs.State.{name_at}
 use Rattle.ot_kernel.proofs.Namings.{name_of-index}
 use Rattle.ot_nodes.specs.Items.{Item}
@@ -42,7 +42,7 @@ use Rattle.ot_words.specs.declared.words.Made.{Made}
 use Rattle.ot_log.specs.Keeping.{IsNumbered, IsPlaced, IsWriter, Holds, Marks, number_in, number_at}
 use Rattle.ot_log.specs.declared.writer.Place.{Place}
 use Rattle.ot_log.specs.declared.writer.Writer.{Writer}
-use Rattle.ot_plain.proofs.Elements.{All-slice_get, slice_get-low, slice_get-set_other, slice_get-set_same}
+use Rattle.ot_logic.proofs.Elements.{All-slice_get, slice_get-low, slice_get-set_other, slice_get-set_same}
 
 pub get-here : {X : Type 0} (xs : List X) (i : ℕ) (x y : X) → x ≡ get_or xs i x → slice_get xs i ≡ Some y → x ≡ y
 get-here [] i x y p e = absurd (cc)

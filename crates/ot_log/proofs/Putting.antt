@@ -1,13 +1,13 @@
 -- What the records of a word, of operands by their steps, are.
 use Rattle.std.proofs.Common.{◌≡◌, ◌≢◌, ℕ, List, [], ◌∷◌, ◌++◌, slice_get, Some}
 use Rattle.std.proofs.Common.{Result, Ok, Err, IfOk, refl, sym, ap, subst, ◌∙◌}
-use Rattle.ot_plain.specs.Names.{Name}
-use Rattle.ot_plain.specs.Table.{Extends}
-use Rattle.ot_plain.specs.Trees.{Tm, Variable, Sequent}
-use Rattle.ot_plain.specs.Answers.{◌>>=◌}
-use Rattle.ot_plain.proofs.TableLemmas.{Extends-trans}
-use Rattle.ot_plain.specs.declared.command.Cmd.{Cmd}
-use Rattle.ot_plain.specs.declared.command.Cmd.TheVariants as words
+use Rattle.ot_logic.specs.Names.{Name}
+use Rattle.ot_logic.specs.Table.{Extends}
+use Rattle.ot_logic.specs.Trees.{Tm, Variable, Sequent}
+use Rattle.ot_logic.specs.Answers.{◌>>=◌}
+use Rattle.ot_logic.proofs.TableLemmas.{Extends-trans}
+use Rattle.ot_logic.specs.declared.command.Cmd.{Cmd}
+use Rattle.ot_logic.specs.declared.command.Cmd.TheVariants as words
 use Rattle.ot_nodes.specs.Items.{Item, name_at, term_at}
 use Rattle.ot_nodes.specs.Changing.{variable_at, type_map, term_map}
 use Rattle.ot_nodes.specs.Typing.{AreTypings}
@@ -44,7 +44,7 @@ use Rattle.ot_log.specs.declared.writer.Writer.{Writer}
 use Rattle.ot_log.proofs.Valued.{has-values, has-applied, has-first, has-rest}
 use Rattle.ot_log.proofs.Valued.{none-are, more-are, its-value, reads-list}
 use Rattle.ot_log.proofs.Placed.{writer-grown, number-some, number-none}
-use Rattle.ot_plain.proofs.Results.{bind-ok}
+use Rattle.ot_logic.proofs.Results.{bind-ok}
 
 no-theorem : (t : Tm Name) (q : Sequent Name) → term t ≢ theorem q
 no-theorem t q e = cc

@@ -1,9 +1,9 @@
 -- The values of operands, where there are all.
 use Rattle.std.proofs.Common.{◌≡◌, List, [], ◌∷◌, Result, Ok, refl, sym, ap, ◌∙◌}
-use Rattle.ot_plain.specs.Names.{Name}
-use Rattle.ot_plain.specs.Faults.{Fault}
-use Rattle.ot_plain.specs.Answers.{◌>>=◌}
-use Rattle.ot_plain.specs.declared.command.Cmd.{Cmd}
+use Rattle.ot_logic.specs.Names.{Name}
+use Rattle.ot_logic.specs.Faults.{Fault}
+use Rattle.ot_logic.specs.Answers.{◌>>=◌}
+use Rattle.ot_logic.specs.declared.command.Cmd.{Cmd}
 use Rattle.ot_trace.specs.Origins.{Origin, Origins, Make, NoOrigins, MoreOrigins}
 use Rattle.ot_machine.specs.Objects.{Object, Objects, list}
 use Rattle.ot_machine.specs.Places.{as_list}
@@ -12,7 +12,7 @@ use Rattle.ot_machine.specs.Values.{value, values, applied}
 use Rattle.ot_values.specs.Steps.{Makes}
 use Rattle.ot_values.specs.Lists.{ReadsAs}
 use Rattle.ot_words.specs.Recording.{HasResult}
-use Rattle.ot_plain.proofs.Results.{bind-ok, same_Ok}
+use Rattle.ot_logic.proofs.Results.{bind-ok, same_Ok}
 
 pub has-values : (w : Cmd) (os : Origins Name) → HasResult (value (Make w os)) → HasResult (values os)
 has-values w os h = let (vs, p, k) = bind-ok (values os) _ h.0 h.1 in (vs, p)

@@ -10,11 +10,11 @@ use Rattle.std.proofs.Common.{true≢false}
 use Rattle.std.proofs.lemmas.Bool.Decides.{nat_tests}
 use Rattle.std.proofs.lemmas.List.{take_more, map-append}
 use Rattle.std.proofs.lemmas.List.Elements.{All-nil, All-cons, All-head, All-tail}
-use Rattle.ot_plain.specs.Lists.{IsMember, IsPart}
-use Rattle.ot_plain.specs.Names.{Name}
-use Rattle.ot_plain.specs.Naming.{names, name_of}
-use Rattle.ot_plain.specs.Trees.{Definition}
-use Rattle.ot_plain.proofs.Naming.{name_of-injective}
+use Rattle.ot_logic.specs.Lists.{IsMember, IsPart}
+use Rattle.ot_logic.specs.Names.{Name}
+use Rattle.ot_logic.specs.Naming.{names, name_of}
+use Rattle.ot_logic.specs.Trees.{Definition}
+use Rattle.ot_logic.proofs.Naming.{name_of-injective}
 use Rattle.ot_trace.specs.Origins.{Origin, map_origin}
 use Rattle.ot_trace.specs.Trace.{origin_at}
 use Rattle.ot_written.specs.Laws.{roots_with}
@@ -43,7 +43,7 @@ use Rattle.ot_log.specs.Logs.{AreLawful, HasProof, Writes, roots_in, steps_log}
 use Rattle.ot_log.specs.declared.writing.LogRefusal.{LogRefusal}
 use Rattle.ot_log.proofs.Placed.{naming-is, origin-tells}
 use Rattle.ot_written.proofs.Renaming.{definitions-map, roots-map}
-use Rattle.ot_plain.proofs.Members.{All-at_member, All-from_members}
+use Rattle.ot_logic.proofs.Members.{All-at_member, All-from_members}
 
 -- ---- one more
 

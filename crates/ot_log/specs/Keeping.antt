@@ -1,10 +1,10 @@
 -- What the writer's tables stand for, over the steps of a session.
 use Rattle.std.specs.Prelude.{◌≡◌, ◌<◌, ℕ, suc, List, [], ◌∷◌, ◌++◌, length, set, slice_get, Option, Some, None, Ok}
 use Rattle.std.specs.List.{All}
-use Rattle.ot_plain.specs.Names.{Name}
-use Rattle.ot_plain.specs.Naming.{IsNameTable}
-use Rattle.ot_plain.specs.Trees.{Definition}
-use Rattle.ot_plain.specs.declared.command.Cmd.{Cmd}
+use Rattle.ot_logic.specs.Names.{Name}
+use Rattle.ot_logic.specs.Naming.{IsNameTable}
+use Rattle.ot_logic.specs.Trees.{Definition}
+use Rattle.ot_logic.specs.declared.command.Cmd.{Cmd}
 use Rattle.ot_nodes.specs.Items.{Item}
 use Rattle.ot_nodes.specs.Typing.{AreTypings}
 use Rattle.ot_rules.specs.Statements.{sequent_at, HasStatement}

@@ -1,9 +1,9 @@
 -- The work list of the writer.
 use Rattle.std.specs.Prelude.{◌≡◌, ◌<◌, ◌+◌, ℕ, true, List, [], ◌∷◌, length}
 use Rattle.std.specs.List.{All, AllByRecursion}
-use Rattle.ot_plain.specs.Names.{Name}
+use Rattle.ot_logic.specs.Names.{Name}
 use Rattle.ot_trace.specs.Origins.{Origin, Make}
-use Rattle.ot_plain.specs.declared.command.Cmd.{Cmd}
+use Rattle.ot_logic.specs.declared.command.Cmd.{Cmd}
 use Rattle.ot_trace.specs.Trace.{origin_at, origins_at}
 use Rattle.ot_values.specs.Steps.{origins_of}
 use Rattle.ot_proof_log.specs.Derived.{makes_theorem}

@@ -1,7 +1,7 @@
 //! Definitions behind their premises, and results behind their theorems.
 ghost use Rattle.std.specs.Prelude.{◌≡◌, ◌≢◌, ◌<◌, [], ◌∷◌, ℕ, length, IfOk, IfSome, IfNone, OnOk};
 ghost use Rattle.std.specs.List.{All};
-ghost use Rattle.ot_plain.specs.declared.command.Cmd.TheVariants as words;
+ghost use Rattle.ot_logic.specs.declared.command.Cmd.TheVariants as words;
 ghost use Rattle.ot_trace.specs.Origins.{Define, Outcome};
 ghost use Rattle.ot_rules.specs.Statements.{sequent_at, HasStatement};
 ghost use Rattle.ot_machine.specs.Objects as object;
@@ -13,8 +13,8 @@ ghost use Rattle.ot_words.specs.Recording.{HasResult, IsNotRefused};
 ghost use Rattle.ot_log.specs.Keeping.{AreTheorems, IsDefinable, IsNumbered, IsWriter, Moves, PutsDefinition};
 
 use crate::writer::Writer;
+use ot_logic::{Cmd, Memory};
 use ot_machine::Session;
-use ot_plain::{Cmd, Memory};
 use ot_records::RecordWord;
 use ot_rules::{Statement, StepFault};
 use ot_sheet::Operand;

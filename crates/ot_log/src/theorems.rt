@@ -2,7 +2,7 @@
 ghost use Rattle.std.specs.Prelude.{◌<◌, [], ◌∷◌, length, IfOk, OnOk};
 ghost use Rattle.std.specs.List.{All};
 ghost use Rattle.ot_trace.specs.Origins.{Make};
-ghost use Rattle.ot_plain.specs.declared.command.Cmd.TheVariants as words;
+ghost use Rattle.ot_logic.specs.declared.command.Cmd.TheVariants as words;
 ghost use Rattle.ot_machine.specs.Meaning.{origin_of};
 ghost use Rattle.ot_machine.specs.Values.{value};
 ghost use Rattle.ot_values.specs.Steps.{origins_of};
@@ -11,8 +11,8 @@ ghost use Rattle.ot_log.specs.Keeping.{IsNumbered, IsWriter, Puts, Moves};
 ghost use Rattle.ot_log.specs.Working.{MakesTheorem, close};
 
 use crate::writer::Writer;
+use ot_logic::{Cmd, Memory};
 use ot_machine::Session;
-use ot_plain::{Cmd, Memory};
 use ot_rules::StepFault;
 use ot_trace::{Step, StepId};
 use ot_words::{

@@ -12,8 +12,8 @@ ghost use Rattle.ot_log.specs.Working.{AreTasks, IsTask, IsTheoremStep, Replaces
 ghost use Rattle.ot_log.specs.declared.worklist.Task.TheVariants as task;
 
 use crate::writer::Writer;
+use ot_logic::{Cmd, Memory};
 use ot_machine::Session;
-use ot_plain::{Cmd, Memory};
 use ot_trace::{Step, StepId};
 use std::alloc::Global;
 

@@ -4,9 +4,9 @@ ghost use Rattle.ot_machine.specs.declared.session.Session.{Session as Run};
 ghost use Rattle.ot_proof_log.specs.Writing.{nothing_written};
 ghost use Rattle.ot_log.specs.Keeping.{Holds, IsPlaced, IsWriter, Marks, number_at};
 
+use ot_logic::Memory;
 use ot_machine::Session;
 use ot_nodes::{Nodes, Typings};
-use ot_plain::Memory;
 use ot_rules::Statement;
 use ot_sheet::Sheet;
 use ot_trace::StepId;

@@ -12,8 +12,8 @@ ghost use Rattle.ot_log.specs.Keeping.{Holds, IsDefinable, IsNumbered};
 ghost use Rattle.ot_proof_log.specs.Writing.{log};
 
 use crate::writer::Writer;
+use ot_logic::Memory;
 use ot_machine::{Export, Session};
-use ot_plain::Memory;
 use ot_proof_log::run_log_law;
 use ot_sheet::Sheet;
 use ot_text::PrintFault;

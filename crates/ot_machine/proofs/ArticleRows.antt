@@ -7,12 +7,12 @@ use Rattle.std.specs.FinMap.{FinMap, get, insert, remove, get-insert, get-remove
 use Rattle.std.proofs.Common.{refl, sym, ap, ◌∙◌, subst}
 use Rattle.std.proofs.lemmas.Option.{same_Some}
 use Rattle.std.proofs.lemmas.List.Elements.{All-nil, All-cons, All-append}
-use Rattle.ot_plain.specs.Names.{Name}
-use Rattle.ot_plain.specs.Naming.{names}
-use Rattle.ot_plain.specs.Trees.{Tm, Sequent}
-use Rattle.ot_plain.specs.Hol.{same_sequent}
-use Rattle.ot_plain.specs.Faults.{Fault, NoEntry, ExportMismatch}
-use Rattle.ot_plain.specs.Answers.{some_or, unless}
+use Rattle.ot_logic.specs.Names.{Name}
+use Rattle.ot_logic.specs.Naming.{names}
+use Rattle.ot_logic.specs.Trees.{Tm, Sequent}
+use Rattle.ot_logic.specs.Hol.{same_sequent}
+use Rattle.ot_logic.specs.Faults.{Fault, NoEntry, ExportMismatch}
+use Rattle.ot_logic.specs.Answers.{some_or, unless}
 use Rattle.ot_machine.specs.Objects.{Objects, list, term, theorem}
 use Rattle.ot_machine.specs.States.{Entry, Export, ArticleState, RunState}
 use Rattle.ot_machine.specs.Places.{entry_at, object_at, dropped, as_list, as_term, as_theorem}
@@ -24,7 +24,7 @@ use Rattle.ot_machine.proofs.Tops.{same-ok}
 use Rattle.ot_machine.proofs.StackRows.{AllFit, entry-fits, object-fits, dropped-fits, pushed-fits}
 use Rattle.ot_machine.proofs.Apart.{apart-push, not-exported}
 use Rattle.ot_machine.proofs.ObjectKinds.{list-is, term-is, theorem-is}
-use Rattle.ot_plain.proofs.Results.{bind-ok, some_or-ok, unless-ok}
+use Rattle.ot_logic.proofs.Results.{bind-ok, some_or-ok, unless-ok}
 
 module _ (b : Basis) where
   -- the theorem, the list and the term at a place fit the origins there

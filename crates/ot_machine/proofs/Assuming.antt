@@ -5,13 +5,13 @@ use Rattle.std.specs.Prelude.{true, false, cond, Some, None, Vec, Ok, Err, if◌
 use Rattle.std.specs.Option.{unwrap_or}
 use Rattle.std.specs.List.{All, list_all}
 use Rattle.std.proofs.Common.{refl, sym, ap, ◌∙◌, subst, arith}
-use Rattle.ot_plain.specs.Names.{Name}
-use Rattle.ot_plain.specs.Trees.{Tm, Sequent}
-use Rattle.ot_plain.specs.Hol.{bool_ty, same_sequent}
-use Rattle.ot_plain.specs.Naming.{names}
-use Rattle.ot_plain.specs.Faults.{Fault, NotBool}
-use Rattle.ot_plain.specs.Rules.{has_type}
-use Rattle.ot_plain.specs.Answers.{◌>>=◌, unless}
+use Rattle.ot_logic.specs.Names.{Name}
+use Rattle.ot_logic.specs.Trees.{Tm, Sequent}
+use Rattle.ot_logic.specs.Hol.{bool_ty, same_sequent}
+use Rattle.ot_logic.specs.Naming.{names}
+use Rattle.ot_logic.specs.Faults.{Fault, NotBool}
+use Rattle.ot_logic.specs.Rules.{has_type}
+use Rattle.ot_logic.specs.Answers.{◌>>=◌, unless}
 use Rattle.ot_kernel.specs.Axioms.{axiom_rule, known, with_sequent}
 use Rattle.ot_kernel.specs.State as kernel
 use Rattle.ot_trace.specs.Origins.{Origin}
@@ -28,7 +28,7 @@ use Rattle.ot_machine.proofs.Stepped.{push-inside, push-length, givens-push, wit
 use Rattle.ot_machine.proofs.Stepped.{steps-grow, of-with, definitions-same}
 use Rattle.ot_machine.proofs.Taken.{stated, once, as-once}
 use Rattle.ot_machine.proofs.Tops.{same-ok}
-use Rattle.ot_plain.proofs.Results.{bind-ok}
+use Rattle.ot_logic.proofs.Results.{bind-ok}
 
 module _ (s : Session) (l : kernel.State) (a d : Vec StepId Global) (m : Machine) (h : IsOf s m)
     (kept : kernel.Keeps s.kernel l) where

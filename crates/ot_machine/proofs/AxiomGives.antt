@@ -3,16 +3,16 @@ use Rattle.std.specs.Prelude.{◌≡◌, ◌≢◌, ◌⊎◌, ◌↔◌, ◌&&�
 use Rattle.std.specs.Prelude.{◌∷◌, find, Option, Some, None, Result, Ok, Err, if◌then◌else◌}
 use Rattle.std.specs.List.{list_all}
 use Rattle.std.proofs.Common.{refl, sym, ap, ◌∙◌, subst, inl, inr}
-use Rattle.ot_plain.specs.Lists.{IsMember, IsSameSet}
-use Rattle.ot_plain.specs.Names.{Name}
-use Rattle.ot_plain.specs.Naming.{names}
-use Rattle.ot_plain.specs.Trees.{Tm, Sequent}
-use Rattle.ot_plain.specs.Hol.{bool_ty, equation, same_tm, same_sequent, is_in}
-use Rattle.ot_plain.specs.Hol.{all_in, union, minus, once_each, is_shallow_sequent}
-use Rattle.ot_plain.specs.Rules.{has_type}
-use Rattle.ot_plain.specs.Faults.{Fault, NotBool, Nesting}
-use Rattle.ot_plain.specs.Answers.{◌>>=◌, unless}
-use Rattle.ot_plain.specs.declared.command.Cmd.TheVariants as words
+use Rattle.ot_logic.specs.Lists.{IsMember, IsSameSet}
+use Rattle.ot_logic.specs.Names.{Name}
+use Rattle.ot_logic.specs.Naming.{names}
+use Rattle.ot_logic.specs.Trees.{Tm, Sequent}
+use Rattle.ot_logic.specs.Hol.{bool_ty, equation, same_tm, same_sequent, is_in}
+use Rattle.ot_logic.specs.Hol.{all_in, union, minus, once_each, is_shallow_sequent}
+use Rattle.ot_logic.specs.Rules.{has_type}
+use Rattle.ot_logic.specs.Faults.{Fault, NotBool, Nesting}
+use Rattle.ot_logic.specs.Answers.{◌>>=◌, unless}
+use Rattle.ot_logic.specs.declared.command.Cmd.TheVariants as words
 use Rattle.ot_laws.proofs.Tests.{tells_names, same_tm-is}
 use Rattle.ot_laws.proofs.Sets.{same_set-self}
 use Rattle.ot_laws.proofs.Hypotheses.{is_in-is, all_in-is, same_sequent-is, IsMember-minus}
@@ -26,7 +26,7 @@ use Rattle.ot_machine.specs.Discharge.{element_entries, adding, weakened, given_
 use Rattle.ot_machine.specs.LawfulLaws.{AxiomGivesItsSequent}
 use Rattle.ot_machine.proofs.Tops.{same-ok}
 use Rattle.ot_machine.proofs.ObjectKinds.{term-is}
-use Rattle.ot_plain.proofs.Results.{bind-ok, unless-ok}
+use Rattle.ot_logic.proofs.Results.{bind-ok, unless-ok}
 
 abbrev gives : Entry → Result Entry (Fault Name)
 gives e = Ok e

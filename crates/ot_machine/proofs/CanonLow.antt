@@ -3,15 +3,15 @@ use Rattle.std.specs.Prelude.{◌≡◌, ◌≤◌, nat_le, ℕ, suc, max, true,
 use Rattle.std.specs.Option.{option_and_then}
 use Rattle.std.proofs.Common.{refl, sym, ap, ◌∙◌, arith, subst}
 use Rattle.std.proofs.lemmas.Bool.{leb-true, and_parts}
-use Rattle.ot_plain.specs.Names.{Name}
-use Rattle.ot_plain.specs.Naming.{names}
-use Rattle.ot_plain.specs.Trees.{Ty, Variable, Tm, Free, Con, Bound, App, Abs}
-use Rattle.ot_plain.specs.Hol.{depth_limit, depth_tm, is_shallow, close, type_in, as_fun_ty}
-use Rattle.ot_plain.specs.Faults.{Nesting, NotFunction, ArgumentType}
-use Rattle.ot_plain.specs.Answers.{unless, some_or}
-use Rattle.ot_plain.specs.Rules.{has_type, app_rule, abs_rule}
-use Rattle.ot_plain.specs.declared.command.Cmd.{Cmd}
-use Rattle.ot_plain.specs.declared.command.Cmd.TheVariants as words
+use Rattle.ot_logic.specs.Names.{Name}
+use Rattle.ot_logic.specs.Naming.{names}
+use Rattle.ot_logic.specs.Trees.{Ty, Variable, Tm, Free, Con, Bound, App, Abs}
+use Rattle.ot_logic.specs.Hol.{depth_limit, depth_tm, is_shallow, close, type_in, as_fun_ty}
+use Rattle.ot_logic.specs.Faults.{Nesting, NotFunction, ArgumentType}
+use Rattle.ot_logic.specs.Answers.{unless, some_or}
+use Rattle.ot_logic.specs.Rules.{has_type, app_rule, abs_rule}
+use Rattle.ot_logic.specs.declared.command.Cmd.{Cmd}
+use Rattle.ot_logic.specs.declared.command.Cmd.TheVariants as words
 use Rattle.ot_laws.proofs.Steps.{limit-ok}
 use Rattle.ot_laws.proofs.Tests.{tells_names}
 use Rattle.ot_laws.proofs.Typing.{depth-closed}
@@ -25,7 +25,7 @@ use Rattle.ot_machine.specs.Version5.{crep, ceq, vr, tr, rep_origin, binders}
 use Rattle.ot_machine.proofs.Tops.{same-ok}
 use Rattle.ot_machine.proofs.Operands.{two-operands}
 use Rattle.ot_machine.proofs.ObjectKinds.{term-is}
-use Rattle.ot_plain.proofs.Results.{bind-ok}
+use Rattle.ot_logic.proofs.Results.{bind-ok}
 
 -- ---- operands of an origin that has a value
 pub first-value : (w : Cmd) (o : Origin Name) (os : Origins Name) (v : Object) → value (Make w (MoreOrigins o os))

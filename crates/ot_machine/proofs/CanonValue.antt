@@ -5,11 +5,11 @@ use Rattle.std.specs.Fmt.{decimal}
 use Rattle.std.proofs.Common.{refl, sym, ap, ◌∙◌, arith, inl, inr}
 use Rattle.std.proofs.lemmas.Fmt.{decimal_injective}
 use Rattle.std.proofs.lemmas.Option.{same_Some}
-use Rattle.ot_plain.specs.Names.{Name}
-use Rattle.ot_plain.specs.Naming.{names}
-use Rattle.ot_plain.specs.Trees.{Ty, Variable, Tm, Free, Con, Bound, App, Abs, Named, NVar, NConst, NApp, NAbs}
-use Rattle.ot_plain.specs.Hol.{depth_limit, depth_tm, type_in, HasType, IsClosed}
-use Rattle.ot_plain.specs.Hol.{IsWithin, nameless, nameless_in, place, named_type}
+use Rattle.ot_logic.specs.Names.{Name}
+use Rattle.ot_logic.specs.Naming.{names}
+use Rattle.ot_logic.specs.Trees.{Ty, Variable, Tm, Free, Con, Bound, App, Abs, Named, NVar, NConst, NApp, NAbs}
+use Rattle.ot_logic.specs.Hol.{depth_limit, depth_tm, type_in, HasType, IsClosed, IsWithin}
+use Rattle.ot_logic.specs.NamedTerms.{nameless, nameless_in, place, named_type}
 use Rattle.ot_laws.proofs.Tests.{tells_names, var_cases}
 use Rattle.ot_laws.proofs.Named.{nameless_in-nil}
 use Rattle.ot_laws.proofs.Typing.{type-nameless, within-typed}
@@ -26,7 +26,7 @@ or_binder (Some v) = v
 or_binder None = record { name = []; ty = type_of_none }
   where
     type_of_none : Ty Name
-    type_of_none = Rattle.ot_plain.specs.Trees.TyVar []
+    type_of_none = Rattle.ot_logic.specs.Trees.TyVar []
 
 -- the named term whose binders are numbered by their depth
 abbrev pub numbered_form : ℕ → List (Variable Name) → Tm Name → Named Name

@@ -12,16 +12,16 @@ use Rattle.std.proofs.lemmas.Bool.{and_parts}
 use Rattle.std.proofs.lemmas.Slice.Eq.{slice_eq-Decides}
 use Rattle.std.proofs.lemmas.Option.{same_Some}
 use Rattle.std.proofs.lemmas.List.Elements.{All-head, All-tail}
-use Rattle.ot_plain.specs.Names.{Name}
-use Rattle.ot_plain.specs.Naming.{names}
-use Rattle.ot_plain.specs.Trees.{Ty, TyVar, Variable, Bound, Named, NVar, NConst, NApp, NAbs}
-use Rattle.ot_plain.specs.Hol.{bool_ty, type_of, named_type, tys_of_vars, same_var}
-use Rattle.ot_plain.specs.Hol.{place, at_place, nameless, nameless_in, IsFreeIn}
+use Rattle.ot_logic.specs.Names.{Name}
+use Rattle.ot_logic.specs.Naming.{names}
+use Rattle.ot_logic.specs.Trees.{Ty, TyVar, Variable, Bound, Named, NVar, NConst, NApp, NAbs}
+use Rattle.ot_logic.specs.Hol.{bool_ty, type_of, tys_of_vars, same_var}
+use Rattle.ot_logic.specs.NamedTerms.{named_type, place, at_place, nameless, nameless_in, IsFreeIn}
 use Rattle.ot_laws.proofs.Tests.{tells_names, var_cases}
 use Rattle.ot_laws.proofs.Named.{nameless_in-nil}
 use Rattle.ot_laws.proofs.Typing.{type-nameless}
 use Rattle.ot_kernel.specs.State as kernel
-use Rattle.ot_plain.specs.declared.command.Cmd.TheVariants as words
+use Rattle.ot_logic.specs.declared.command.Cmd.TheVariants as words
 use Rattle.ot_trace.specs.Origins.{Origin, Make, NoOrigins, make_two}
 use Rattle.ot_term.specs.declared.term.VarKey.{VarKey}
 use Rattle.ot_view.specs.Nodes.{IsKey}

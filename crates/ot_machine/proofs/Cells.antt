@@ -7,10 +7,10 @@ use Rattle.std.proofs.Common.{refl, sym, ◌∙◌, ap, subst, arith, inl, inr, 
 use Rattle.std.proofs.lemmas.Option.{slice_get_within, slice_get-get_or, get_or_from_slice_get}
 use Rattle.std.proofs.lemmas.Bool.{le-leb}
 use Rattle.std.proofs.lemmas.List.Elements.{All-head, All-tail}
-use Rattle.ot_plain.specs.Table.{Extends}
-use Rattle.ot_plain.specs.Hol.{depth_limit}
-use Rattle.ot_plain.proofs.TableLemmas.{Extends-append}
-use Rattle.ot_plain.proofs.InternedLemmas.{slice_get-last, slice_get-push}
+use Rattle.ot_logic.specs.Table.{Extends}
+use Rattle.ot_logic.specs.Hol.{depth_limit}
+use Rattle.ot_logic.proofs.TableLemmas.{Extends-append}
+use Rattle.ot_logic.proofs.InternedLemmas.{slice_get-last, slice_get-push}
 use Rattle.ot_kernel.specs.State as kernel
 use Rattle.ot_machine.specs.Objects.{Object, Objects, list, no_objects, more_objects, nesting}
 use Rattle.ot_machine.specs.declared.object.Object as object

@@ -2,12 +2,12 @@
 use Rattle.std.proofs.Common.{◌≡◌, Bool, true, false, cond, List, [], ◌∷◌, ◌++◌, ap, subst, ◌∙◌, refl, ℕ}
 use Rattle.std.specs.Prelude.{ℤ, Option, Some, None, Result, Ok, Err, is_some}
 use Rattle.std.specs.List.{AllByRecursion}
-use Rattle.ot_plain.specs.Names.{Name}
-use Rattle.ot_plain.specs.Faults.{Fault, BadName, NumberRange}
-use Rattle.ot_plain.specs.Answers.{◌>>=◌}
-use Rattle.ot_plain.specs.Reading.{name_read}
-use Rattle.ot_plain.specs.declared.command.Cmd.{Cmd}
-use Rattle.ot_plain.specs.Commands as spellings
+use Rattle.ot_logic.specs.Names.{Name}
+use Rattle.ot_logic.specs.Faults.{Fault, BadName, NumberRange}
+use Rattle.ot_logic.specs.Answers.{◌>>=◌}
+use Rattle.ot_logic.specs.Reading.{name_read}
+use Rattle.ot_logic.specs.declared.command.Cmd.{Cmd}
+use Rattle.ot_logic.specs.Commands as spellings
 use Rattle.ot_scan.specs.Lines.{IsLineText}
 use Rattle.ot_scan.specs.Words.{WordValue, Numeral, Quoted, Order, is_in_range}
 use Rattle.ot_scan.specs.Words.{word, name_word, number_word, number, command_word}
@@ -15,7 +15,7 @@ use Rattle.ot_machine.specs.States.{State, Context}
 use Rattle.ot_machine.specs.Step.{step}
 use Rattle.ot_machine.specs.Run.{line_step}
 use Rattle.ot_machine.specs.Commanded.{CanBeSaid, steps, LeadsTo}
-use Rattle.ot_plain.proofs.Elements.{AllByRecursion-push}
+use Rattle.ot_logic.proofs.Elements.{AllByRecursion-push}
 
 -- ---- the word of a line
 

@@ -2,12 +2,12 @@
 use Rattle.std.specs.Prelude.{◌≡◌, ℕ, List, [], ◌∷◌, ◌++◌, map, Result, Ok}
 use Rattle.std.specs.Prelude.{Err, nat_le, Bool, true, false, if◌then◌else◌}
 use Rattle.std.proofs.Common.{refl, ap}
-use Rattle.ot_plain.specs.Names.{Name}
-use Rattle.ot_plain.specs.Faults.{Fault, Nesting}
-use Rattle.ot_plain.specs.Hol.{depth_limit}
+use Rattle.ot_logic.specs.Names.{Name}
+use Rattle.ot_logic.specs.Faults.{Fault, Nesting}
+use Rattle.ot_logic.specs.Hol.{depth_limit}
 use Rattle.ot_machine.specs.Objects.{Object, Objects, list, constant, no_objects, more_objects, nesting}
 use Rattle.ot_machine.specs.Makers.{consed}
-use Rattle.ot_plain.specs.declared.command.Cmd.TheVariants as words
+use Rattle.ot_logic.specs.declared.command.Cmd.TheVariants as words
 use Rattle.ot_trace.specs.Origins.{Named, Make, NoOrigins, make_one, make_two, constant_origin}
 use Rattle.ot_machine.specs.Rows.{constants_of, constants_origin}
 use Rattle.ot_machine.specs.RenamedLists.{list_onto}

@@ -2,13 +2,13 @@
 use Rattle.std.specs.Prelude.{◌≡◌, ◌<◌, ◌+◌, ℕ, suc, List, [], ◌∷◌, ◌++◌, length, slice_index_or, Result, Ok, Err}
 use Rattle.std.proofs.Common.{refl, sym, ap, ◌∙◌, arith, length-append}
 use Rattle.std.proofs.lemmas.List.{get_or_at, get_or-append-add, length_push}
-use Rattle.ot_plain.specs.Names.{Name}
-use Rattle.ot_plain.specs.Trees.{Tm, Variable, Sequent, Free, Con, Bound, App}
-use Rattle.ot_plain.specs.Trees.{Abs, Definition, ConDef, ListDef, TyDef}
-use Rattle.ot_plain.specs.Hol.{theorems, theorems_at}
-use Rattle.ot_plain.specs.Naming.{names}
-use Rattle.ot_plain.specs.Faults as faults
-use Rattle.ot_plain.specs.Answers.{◌>>=◌, some_or}
+use Rattle.ot_logic.specs.Names.{Name}
+use Rattle.ot_logic.specs.Trees.{Tm, Variable, Sequent, Free, Con, Bound, App}
+use Rattle.ot_logic.specs.Trees.{Abs, Definition, ConDef, ListDef, TyDef}
+use Rattle.ot_logic.specs.Hol.{theorems, theorems_at}
+use Rattle.ot_logic.specs.Naming.{names}
+use Rattle.ot_logic.specs.Faults as faults
+use Rattle.ot_logic.specs.Answers.{◌>>=◌, some_or}
 use Rattle.ot_laws.specs.Conditions.{function_of}
 use Rattle.ot_kernel.specs.Defining.{zipped, const_definition, list_definition, type_definition}
 use Rattle.ot_kernel.specs.State as kernel

@@ -1,18 +1,18 @@
 -- A definition that is accepted after some is accepted after fewer.
 use Rattle.std.specs.Prelude.{◌≡◌, ◌==◌, ℕ, List, length, map, Ok}
-use Rattle.ot_plain.specs.Names.{Name}
-use Rattle.ot_plain.specs.Trees.{Definition}
-use Rattle.ot_plain.specs.Faults.{StackEmpty}
-use Rattle.ot_plain.specs.Answers.{◌>>=◌, unless}
-use Rattle.ot_plain.specs.declared.command.Cmd.{Cmd}
-use Rattle.ot_plain.specs.declared.command.Cmd.TheVariants as words
+use Rattle.ot_logic.specs.Names.{Name}
+use Rattle.ot_logic.specs.Trees.{Definition}
+use Rattle.ot_logic.specs.Faults.{StackEmpty}
+use Rattle.ot_logic.specs.Answers.{◌>>=◌, unless}
+use Rattle.ot_logic.specs.declared.command.Cmd.{Cmd}
+use Rattle.ot_logic.specs.declared.command.Cmd.TheVariants as words
 use Rattle.ot_trace.specs.Origins.{Origin, Number, Named, Make, Define, Outcome}
 use Rattle.ot_machine.specs.Places.{as_name, as_list, as_term, as_theorem, as_each}
 use Rattle.ot_machine.specs.DefinitionLists.{pairs_of}
 use Rattle.ot_machine.specs.Makers.{Read}
 use Rattle.ot_machine.specs.Values.{values, defined_by, definition_arity, definition_of, value_at}
 use Rattle.ot_machine.proofs.Fewer.{HaveFewer, const_definition-fewer, list_definition-fewer, type_definition-fewer}
-use Rattle.ot_plain.proofs.Results.{bind-ok, bind-to}
+use Rattle.ot_logic.proofs.Results.{bind-ok, bind-to}
 
 module _ (ds es : List (Definition Name)) (h : HaveFewer ds es) (x : Definition Name) where
   defined-fewer : (w : Cmd) (at : ℕ → Read) → defined_by w es at ≡ Ok x → defined_by w ds at ≡ Ok x

@@ -8,15 +8,15 @@ use Rattle.std.proofs.lemmas.Simd.{map-map}
 use Rattle.std.proofs.lemmas.List.{map-append, take-append-le}
 use Rattle.std.proofs.Math.Seq.{take-append_seam}
 use Rattle.std.proofs.lemmas.List.Elements.{All-nil, All-cons, All-head, All-tail, All-append}
-use Rattle.ot_plain.proofs.InternedLemmas.{slice_get-push}
-use Rattle.ot_plain.specs.Lists.{IsMember}
-use Rattle.ot_plain.specs.Names.{Name}
-use Rattle.ot_plain.specs.Naming.{names}
-use Rattle.ot_plain.specs.Trees.{Variable, Sequent, Definition}
-use Rattle.ot_plain.specs.Hol.{theorems}
-use Rattle.ot_plain.specs.Faults.{Fault, BadDefinitionList}
-use Rattle.ot_plain.specs.Answers.{◌>>=◌}
-use Rattle.ot_plain.specs.declared.command.Cmd.TheVariants as words
+use Rattle.ot_logic.proofs.InternedLemmas.{slice_get-push}
+use Rattle.ot_logic.specs.Lists.{IsMember}
+use Rattle.ot_logic.specs.Names.{Name}
+use Rattle.ot_logic.specs.Naming.{names}
+use Rattle.ot_logic.specs.Trees.{Variable, Sequent, Definition}
+use Rattle.ot_logic.specs.Hol.{theorems}
+use Rattle.ot_logic.specs.Faults.{Fault, BadDefinitionList}
+use Rattle.ot_logic.specs.Answers.{◌>>=◌}
+use Rattle.ot_logic.specs.declared.command.Cmd.TheVariants as words
 use Rattle.ot_interp.specs.Interpretation.{renamed}
 use Rattle.ot_kernel.specs.Defining.{Defining, const_definition, list_definition, type_definition}
 use Rattle.ot_trace.specs.Origins.{Origin, Named, Define, Outcome, from_list, renamed_first, renamed_pairs, make_two}
@@ -43,8 +43,8 @@ use Rattle.ot_machine.proofs.StackRows.{AllFit, dropped-fits, name-held, constan
 use Rattle.ot_machine.proofs.ArticleRows.{theorem-at, term-at, list-at}
 use Rattle.ot_machine.proofs.RunRows.{answer, larger-definitions, article-more}
 use Rattle.ot_machine.proofs.ObjectKinds.{name-is, list-is, variable-is, or_bad-is}
-use Rattle.ot_plain.proofs.Results.{bind-ok}
-use Rattle.ot_plain.proofs.Members.{IsMember-last}
+use Rattle.ot_logic.proofs.Results.{bind-ok}
+use Rattle.ot_logic.proofs.Members.{IsMember-last}
 
 abbrev okay : List Entry → Result (List Entry) (Fault Name)
 okay es = Ok es

@@ -7,9 +7,9 @@ use Rattle.std.specs.Cmp.{int_cmp_total, eq_by_cmp_equiv}
 use Rattle.std.specs.Map.{lookup}
 use Rattle.std.specs.FinMap.{get, insert, remove, get-insert, get-remove, same_map, int_cmp-IsAntisymmetric}
 use Rattle.std.proofs.lemmas.Option.{same_Some}
-use Rattle.ot_plain.specs.Names.{Name}
-use Rattle.ot_plain.specs.Faults as faults
-use Rattle.ot_plain.specs.Answers.{some_or}
+use Rattle.ot_logic.specs.Names.{Name}
+use Rattle.ot_logic.specs.Faults as faults
+use Rattle.ot_logic.specs.Answers.{some_or}
 use Rattle.ot_kernel.specs.State as kernel
 use Rattle.ot_machine.specs.Objects.{Objects}
 use Rattle.ot_machine.specs.declared.object.Entry.{Entry}

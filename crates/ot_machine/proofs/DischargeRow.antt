@@ -3,12 +3,12 @@ use Rattle.std.specs.Prelude.{◌≡◌, ◌&&◌, ℕ, Bool, true, false, List,
 use Rattle.std.specs.Prelude.{Option, Some, None, Result, Ok, if◌then◌else◌}
 use Rattle.std.proofs.Common.{refl, ap, ◌∙◌, subst}
 use Rattle.std.proofs.lemmas.List.Elements.{All-nil, All-cons, All-head, All-tail}
-use Rattle.ot_plain.specs.Names.{Name}
-use Rattle.ot_plain.specs.Naming.{names}
-use Rattle.ot_plain.specs.Trees.{Tm, Sequent}
-use Rattle.ot_plain.specs.Hol.{same_tm, all_in}
-use Rattle.ot_plain.specs.Faults.{Fault}
-use Rattle.ot_plain.specs.declared.command.Cmd.TheVariants as words
+use Rattle.ot_logic.specs.Names.{Name}
+use Rattle.ot_logic.specs.Naming.{names}
+use Rattle.ot_logic.specs.Trees.{Tm, Sequent}
+use Rattle.ot_logic.specs.Hol.{same_tm, all_in}
+use Rattle.ot_logic.specs.Faults.{Fault}
+use Rattle.ot_logic.specs.declared.command.Cmd.TheVariants as words
 use Rattle.ot_kernel.specs.Axioms.{axiom_rule}
 use Rattle.ot_trace.specs.Origins.{Origin, Origins, Make}
 use Rattle.ot_machine.specs.Objects.{Objects, list, theorem, no_objects, more_objects}
@@ -29,7 +29,7 @@ use Rattle.ot_machine.proofs.Growing.{same-basis}
 use Rattle.ot_machine.proofs.StackRows.{AllFit, parts-fit, list_entry-fits, replaced-fits}
 use Rattle.ot_machine.proofs.RunRows.{answer, all-found, axiom_given, made-axiom}
 use Rattle.ot_machine.proofs.RunRows.{assumed-fits, article-more, with-stack}
-use Rattle.ot_plain.proofs.Results.{bind-ok}
+use Rattle.ot_logic.proofs.Results.{bind-ok}
 
 module _ (b : Basis) where
   both : (x y : Entry) → EntryFits b x → EntryFits b y → AllFit b (x ∷ y ∷ [])

@@ -1,12 +1,12 @@
 -- The rules on equations without hypotheses, within the nesting limit.
 use Rattle.std.specs.Prelude.{◌≡◌, true, false, Ok, Err}
 use Rattle.std.proofs.Common.{refl}
-use Rattle.ot_plain.specs.Names.{Name}
-use Rattle.ot_plain.specs.Naming.{names}
-use Rattle.ot_plain.specs.Trees.{Ty, Tm, App, Abs, Sequent}
-use Rattle.ot_plain.specs.Hol.{fun_ty, HasType, is_shallow, same_ty, same_tm, equation, sequent_of, opened}
-use Rattle.ot_plain.specs.Faults.{Nesting}
-use Rattle.ot_plain.specs.Rules.{refl_rule, app_thm_rule, beta_conv_rule, sym_rule, trans_rule}
+use Rattle.ot_logic.specs.Names.{Name}
+use Rattle.ot_logic.specs.Naming.{names}
+use Rattle.ot_logic.specs.Trees.{Ty, Tm, App, Abs, Sequent}
+use Rattle.ot_logic.specs.Hol.{fun_ty, HasType, is_shallow, same_ty, same_tm, equation, sequent_of, opened}
+use Rattle.ot_logic.specs.Faults.{Nesting}
+use Rattle.ot_logic.specs.Rules.{refl_rule, app_thm_rule, beta_conv_rule, sym_rule, trans_rule}
 use Rattle.ot_laws.proofs.Tests.{tells_names, same_ty-is, same_tm-is}
 use Rattle.ot_laws.proofs.Typing.{type_of-is}
 use Rattle.ot_laws.proofs.Equations.{as_equation-equation}

@@ -2,18 +2,18 @@
 use Rattle.std.specs.Prelude.{◌≡◌, ◌||◌, ◌&&◌, ◌==◌, length, Bool, true, false}
 use Rattle.std.specs.Prelude.{List, [], ◌∷◌, map, Result, Ok, Err, if◌then◌else◌}
 use Rattle.std.proofs.Common.{refl}
-use Rattle.ot_plain.specs.Names.{Name}
-use Rattle.ot_plain.specs.Naming.{names}
-use Rattle.ot_plain.specs.Trees.{Symbol, ConSymbol, OpSymbol, Tm, Variable, Sequent, Definition}
-use Rattle.ot_plain.specs.Hol.{symbols_tm, symbols_of, primitives, vars_tm, same_var}
-use Rattle.ot_plain.specs.Faults.{Fault, Primitive, AlreadyDefined, SymbolInUse, BadDefinitionList}
-use Rattle.ot_plain.specs.Faults.{HypothesesPresent, NotApplication, BadTypeVars}
-use Rattle.ot_plain.specs.Answers.{◌>>=◌, unless, some_or}
+use Rattle.ot_logic.specs.Names.{Name}
+use Rattle.ot_logic.specs.Naming.{names}
+use Rattle.ot_logic.specs.Trees.{Symbol, ConSymbol, OpSymbol, Tm, Variable, Sequent, Definition}
+use Rattle.ot_logic.specs.Hol.{symbols_tm, symbols_of, primitives, vars_tm, same_var}
+use Rattle.ot_logic.specs.Faults.{Fault, Primitive, AlreadyDefined, SymbolInUse, BadDefinitionList}
+use Rattle.ot_logic.specs.Faults.{HypothesesPresent, NotApplication, BadTypeVars}
+use Rattle.ot_logic.specs.Answers.{◌>>=◌, unless, some_or}
 use Rattle.ot_laws.specs.Conditions.{same_symbol, is_among, refuse_first, refuse_defined}
 use Rattle.ot_laws.specs.Conditions.{checked_symbols, checked_const, checked_list, checked_type}
 use Rattle.ot_laws.specs.Conditions.{terms_given, function_of, is_empty, are_distinct, are_names_of}
 use Rattle.ot_kernel.specs.Defining.{all_defined, all_used, const_definition, list_definition, type_definition}
-use Rattle.ot_plain.proofs.Results.{bind-ok, bind-to, bind-under}
+use Rattle.ot_logic.proofs.Results.{bind-ok, bind-to, bind-under}
 
 abbrev Syms : Type 0
 Syms = List (Symbol Name)

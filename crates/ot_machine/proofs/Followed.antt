@@ -1,7 +1,7 @@
 -- A run so far over a source that may tell its bytes.
 use Rattle.std.specs.Prelude.{Ok, Err, Option, Some, None, IfSome}
 use Rattle.std.proofs.Common.{◌≡◌, ℕ, List, [], sym, ap, subst, ◌∙◌, refl}
-use Rattle.ot_plain.specs.Faults as stated
+use Rattle.ot_logic.specs.Faults as stated
 use Rattle.ot_scan.specs.Lines.{Scan, Lines, lines_of, lines_to_come, TakesLine, TakesFrom}
 use Rattle.ot_scan.specs.declared.lines.Line.{Line}
 use Rattle.ot_scan.specs.declared.fault.ScanFault.{ScanFault}

@@ -3,9 +3,9 @@ use Rattle.std.specs.Prelude.{◌≡◌, ◌<◌, ℕ, List, [], ◌∷◌, leng
 use Rattle.std.specs.List.{All}
 use Rattle.std.proofs.Common.{refl, sym, ap, ◌∙◌, arith}
 use Rattle.std.proofs.lemmas.List.Elements.{All-head, All-tail, All-map}
-use Rattle.ot_plain.specs.Naming.{names, numbers, IsNameTable}
-use Rattle.ot_plain.specs.Trees.{Bound}
-use Rattle.ot_plain.proofs.TableLemmas.{get_or-IsInjective}
+use Rattle.ot_logic.specs.Naming.{names, numbers, IsNameTable}
+use Rattle.ot_logic.specs.Trees.{Bound}
+use Rattle.ot_logic.proofs.TableLemmas.{get_or-IsInjective}
 use Rattle.ot_interp.specs.Interpretation.{map_pairs, renamed, AreWithin}
 use Rattle.ot_interp.proofs.Renaming.{renamed-at, IsWithin-more, map_interpretation-agree}
 use Rattle.ot_kernel.specs.State as kernel

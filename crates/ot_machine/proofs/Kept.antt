@@ -10,12 +10,12 @@ use Rattle.std.specs.FinMap.{find, get, get-from_entries, same_map, int_cmp-IsAn
 use Rattle.std.proofs.Common.{refl, sym, ◌∙◌, ap, subst, arith, true, false, inl, inr}
 use Rattle.std.proofs.lemmas.Option.{slice_get-get_or, get_or_from_slice_get}
 use Rattle.std.proofs.lemmas.List.Elements.{All-nil, All-cons, All-head, All-tail, All-append, All-map}
-use Rattle.ot_plain.specs.Table.{Extends}
-use Rattle.ot_plain.specs.Names.{Name}
-use Rattle.ot_plain.specs.Trees.{TyVar, NConst, Tm, Bound, Sequent, Definition}
-use Rattle.ot_plain.specs.Hol.{nameless}
-use Rattle.ot_plain.specs.Naming.{names}
-use Rattle.ot_plain.proofs.TableLemmas.{Extends-refl, Extends-trans, Extends-append}
+use Rattle.ot_logic.specs.Table.{Extends}
+use Rattle.ot_logic.specs.Names.{Name}
+use Rattle.ot_logic.specs.Trees.{TyVar, NConst, Tm, Bound, Sequent, Definition}
+use Rattle.ot_logic.specs.NamedTerms.{nameless}
+use Rattle.ot_logic.specs.Naming.{names}
+use Rattle.ot_logic.proofs.TableLemmas.{Extends-refl, Extends-trans, Extends-append}
 use Rattle.ot_kernel.specs.State as kernel
 use Rattle.ot_kernel.specs.Alike.{HasPlace, AreFirstPlaces}
 use Rattle.ot_trace.specs.Trace.{origin_at}

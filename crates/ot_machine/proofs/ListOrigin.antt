@@ -1,24 +1,24 @@
 -- The origin of a list is its cons tree.
 use Rattle.std.specs.Prelude.{◌≡◌, ℕ, Ok, Err, nat_le, if◌then◌else◌, Bool, true, false}
 use Rattle.std.proofs.Common.{refl, ap, ◌∙◌}
-use Rattle.ot_plain.specs.Names.{Name}
-use Rattle.ot_plain.specs.Hol.{depth_limit}
-use Rattle.ot_plain.specs.Faults.{Nesting}
-use Rattle.ot_plain.specs.Answers.{◌>>=◌}
-use Rattle.ot_plain.specs.declared.command.Cmd.{Cmd}
-use Rattle.ot_plain.specs.declared.command.Cmd.TheVariants as words
+use Rattle.ot_logic.specs.Names.{Name}
+use Rattle.ot_logic.specs.Hol.{depth_limit}
+use Rattle.ot_logic.specs.Faults.{Nesting}
+use Rattle.ot_logic.specs.Answers.{◌>>=◌}
+use Rattle.ot_logic.specs.declared.command.Cmd.{Cmd}
+use Rattle.ot_logic.specs.declared.command.Cmd.TheVariants as words
 use Rattle.ot_trace.specs.Origins.{Origin, Origins, Number, Named, Make, Define, Outcome, NoOrigins, make_two}
 use Rattle.ot_machine.specs.Objects.{Object, Objects, list}
 use Rattle.ot_machine.specs.Objects.{no_objects, more_objects, nesting}
 use Rattle.ot_machine.specs.Places.{as_list}
 use Rattle.ot_machine.specs.Makers.{Read, maker, cons_made}
 use Rattle.ot_machine.specs.Values.{value, values, applied}
-use Rattle.ot_plain.specs.declared.kind.Kind.TheVariants as kinds
+use Rattle.ot_logic.specs.declared.kind.Kind.TheVariants as kinds
 use Rattle.ot_machine.proofs.WordKinds.{word_kind, word-kind, outcome-kind}
 use Rattle.ot_machine.proofs.Tops.{same-ok}
 use Rattle.ot_machine.proofs.Operands.{no-operands, two-operands}
 use Rattle.ot_machine.proofs.ObjectKinds.{list-is}
-use Rattle.ot_plain.proofs.Results.{bind-ok}
+use Rattle.ot_logic.proofs.Results.{bind-ok}
 
 abbrev made : Object → Read
 made o = Ok o

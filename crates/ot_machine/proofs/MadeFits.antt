@@ -2,9 +2,9 @@
 use Rattle.std.specs.Prelude.{◌≡◌, ◌≤◌, ℕ, List, [], ◌∷◌, length, Ok}
 use Rattle.std.specs.List.{All}
 use Rattle.std.proofs.Common.{refl, sym, ap, ◌∙◌, arith, subst}
-use Rattle.ot_plain.specs.Faults.{StackEmpty}
-use Rattle.ot_plain.specs.Answers.{◌>>=◌}
-use Rattle.ot_plain.specs.declared.command.Cmd.{Cmd}
+use Rattle.ot_logic.specs.Faults.{StackEmpty}
+use Rattle.ot_logic.specs.Answers.{◌>>=◌}
+use Rattle.ot_logic.specs.declared.command.Cmd.{Cmd}
 use Rattle.ot_trace.specs.Origins.{Make, NoOrigins, MoreOrigins}
 use Rattle.ot_machine.specs.Objects.{Object}
 use Rattle.ot_machine.specs.States.{Entry}
@@ -15,7 +15,7 @@ use Rattle.ot_machine.specs.Values.{values, applied}
 use Rattle.ot_machine.specs.Lawful.{Basis, EntryFits, AreOn, IsTaken}
 use Rattle.ot_machine.proofs.Tops.{same-ok, top-none, top-one, top-two}
 use Rattle.ot_machine.proofs.Strict.{IsStrict, strict}
-use Rattle.ot_plain.proofs.Results.{bind-ok}
+use Rattle.ot_logic.proofs.Results.{bind-ok}
 
 module _ (b : Basis) where
   -- operands that are values of their origins

@@ -1,5 +1,5 @@
 -- Any name may be used.
-use Rattle.ot_plain.specs.Names.{Name}
+use Rattle.ot_logic.specs.Names.{Name}
 use Rattle.ot_machine.specs.NamesIn.{HasVersion5}
 
 pub all-named : HasVersion5 (λ (n : Name). Unit {0})

@@ -5,25 +5,25 @@ use Rattle.std.specs.Option.{unwrap_or}
 use Rattle.std.specs.List.{AllByRecursion, list_all}
 use Rattle.std.proofs.Common.{refl, sym, subst}
 use Rattle.std.proofs.lemmas.Option.{same_Some}
-use Rattle.ot_plain.specs.Names.{Name}
-use Rattle.ot_plain.specs.Naming.{names}
-use Rattle.ot_plain.specs.Trees.{Ty, Tys, TyVar, TyOp, NoTys, MoreTys, Variable}
-use Rattle.ot_plain.specs.Trees.{Tm, Free, Con, Bound, App, Abs, Sequent}
-use Rattle.ot_plain.specs.Hol.{fun_ty, bool_ty, as_fun_ty, type_in, type_of, applied, TypeMap}
-use Rattle.ot_plain.specs.Hol.{TermMap, type_at, term_at, inst_by, inst_all, inst_var, bind, subst_tm}
-use Rattle.ot_plain.specs.Hol.{close_at, open_at, is_shallow, equation, same_tm, same_ty, same_var}
-use Rattle.ot_plain.specs.Hol.{is_in, minus, lacking, union, once_each, is_free_in_some, sequent_of}
-use Rattle.ot_plain.specs.Faults.{Fault, NotFunction, ArgumentType, NotBool, NotAlphaEqual, VarFreeInHyps, Nesting}
-use Rattle.ot_plain.specs.Answers.{unless, some_or}
-use Rattle.ot_plain.specs.Rules.{has_type, op_rule, app_rule, abs_rule, within_limit, sides, refl_rule}
-use Rattle.ot_plain.specs.Rules.{assume_rule, eq_mp_rule, abs_thm_rule, app_thm_rule, deduct_antisym_rule}
-use Rattle.ot_plain.specs.Rules.{beta_conv_rule, subst_rule, sym_rule, trans_rule, prove_hyp_rule, proved_hyp}
+use Rattle.ot_logic.specs.Names.{Name}
+use Rattle.ot_logic.specs.Naming.{names}
+use Rattle.ot_logic.specs.Trees.{Ty, Tys, TyVar, TyOp, NoTys, MoreTys, Variable}
+use Rattle.ot_logic.specs.Trees.{Tm, Free, Con, Bound, App, Abs, Sequent}
+use Rattle.ot_logic.specs.Hol.{fun_ty, bool_ty, as_fun_ty, type_in, type_of, applied, TypeMap}
+use Rattle.ot_logic.specs.Hol.{TermMap, type_at, term_at, inst_by, inst_all, inst_var, bind, subst_tm}
+use Rattle.ot_logic.specs.Hol.{close_at, open_at, is_shallow, equation, same_tm, same_ty, same_var}
+use Rattle.ot_logic.specs.Hol.{is_in, minus, lacking, union, once_each, is_free_in_some, sequent_of}
+use Rattle.ot_logic.specs.Faults.{Fault, NotFunction, ArgumentType, NotBool, NotAlphaEqual, VarFreeInHyps, Nesting}
+use Rattle.ot_logic.specs.Answers.{unless, some_or}
+use Rattle.ot_logic.specs.Rules.{has_type, op_rule, app_rule, abs_rule, within_limit, sides, refl_rule}
+use Rattle.ot_logic.specs.Rules.{assume_rule, eq_mp_rule, abs_thm_rule, app_thm_rule, deduct_antisym_rule}
+use Rattle.ot_logic.specs.Rules.{beta_conv_rule, subst_rule, sym_rule, trans_rule, prove_hyp_rule, proved_hyp}
 use Rattle.ot_laws.proofs.Tests.{tells_names}
 use Rattle.ot_laws.proofs.Typing.{result_ty-some, abs-some, as_fun_ty-some}
 use Rattle.ot_laws.proofs.Steps.{limit-ok, within_limit-ok, sides-ok, op_rule-ok, app_rule-ok}
 use Rattle.ot_kernel.specs.Axioms.{axiom_rule}
 use Rattle.ot_machine.specs.NamesIn.{TyNamed, TysNamed, TmNamed, SequentNamed, HasPrimitives}
-use Rattle.ot_plain.proofs.Results.{bind-ok, same_Ok, some_or-ok}
+use Rattle.ot_logic.proofs.Results.{bind-ok, same_Ok, some_or-ok}
 
 module _ (P : Name → Type 0) (has : HasPrimitives P) where
   abbrev T : Ty Name → Type 0

@@ -5,19 +5,19 @@ use Rattle.std.specs.List.{AllByRecursion, list_all}
 use Rattle.std.proofs.Common.{subst, arith}
 use Rattle.std.proofs.lemmas.Bool.{eqb-true}
 use Rattle.std.proofs.lemmas.Option.{same_Some}
-use Rattle.ot_plain.specs.Names.{Name}
-use Rattle.ot_plain.specs.Naming.{names}
-use Rattle.ot_plain.specs.Trees.{Ty, TyVar, TyOp, Variable, Tm, Free, Con, Bound, App}
-use Rattle.ot_plain.specs.Trees.{Abs, Sequent, Definition, ConDef, ListDef, TyDef}
-use Rattle.ot_plain.specs.Hol.{fun_ty, bool_ty, depth_limit, type_of, TypeMap, TermMap, constants_for}
-use Rattle.ot_plain.specs.Hol.{equation, is_shallow_sequent, theorems, theorems_at, tys_of_vars}
-use Rattle.ot_plain.specs.Faults.{Fault, StackEmpty, Nesting, BadSubst, BadDefinitionList}
-use Rattle.ot_plain.specs.Answers.{◌>>=◌, unless, some_or}
-use Rattle.ot_plain.specs.Rules.{op_rule, app_rule, abs_rule, refl_rule, assume_rule, eq_mp_rule}
-use Rattle.ot_plain.specs.Rules.{abs_thm_rule, app_thm_rule, deduct_antisym_rule, beta_conv_rule}
-use Rattle.ot_plain.specs.Rules.{subst_rule, sym_rule, trans_rule, prove_hyp_rule, has_type}
-use Rattle.ot_plain.specs.declared.command.Cmd.{Cmd}
-use Rattle.ot_plain.specs.declared.command.Cmd.TheVariants as words
+use Rattle.ot_logic.specs.Names.{Name}
+use Rattle.ot_logic.specs.Naming.{names}
+use Rattle.ot_logic.specs.Trees.{Ty, TyVar, TyOp, Variable, Tm, Free, Con, Bound, App}
+use Rattle.ot_logic.specs.Trees.{Abs, Sequent, Definition, ConDef, ListDef, TyDef}
+use Rattle.ot_logic.specs.Hol.{fun_ty, bool_ty, depth_limit, type_of, TypeMap, TermMap, constants_for}
+use Rattle.ot_logic.specs.Hol.{equation, is_shallow_sequent, theorems, theorems_at, tys_of_vars}
+use Rattle.ot_logic.specs.Faults.{Fault, StackEmpty, Nesting, BadSubst, BadDefinitionList}
+use Rattle.ot_logic.specs.Answers.{◌>>=◌, unless, some_or}
+use Rattle.ot_logic.specs.Rules.{op_rule, app_rule, abs_rule, refl_rule, assume_rule, eq_mp_rule}
+use Rattle.ot_logic.specs.Rules.{abs_thm_rule, app_thm_rule, deduct_antisym_rule, beta_conv_rule}
+use Rattle.ot_logic.specs.Rules.{subst_rule, sym_rule, trans_rule, prove_hyp_rule, has_type}
+use Rattle.ot_logic.specs.declared.command.Cmd.{Cmd}
+use Rattle.ot_logic.specs.declared.command.Cmd.TheVariants as words
 use Rattle.ot_laws.proofs.Steps.{limit-ok}
 use Rattle.ot_laws.specs.Conditions.{checked_const, checked_list, checked_type}
 use Rattle.ot_kernel.specs.Axioms.{axiom_rule}
@@ -45,7 +45,7 @@ use Rattle.ot_machine.proofs.NamedRules.{subst-named, op-named, app-named, abs-n
 use Rattle.ot_machine.proofs.NamedRules.{eq_mp-named, abs_thm-named, app_thm-named, deduct-named, beta-named}
 use Rattle.ot_machine.proofs.NamedRules.{subst_rule-named, sym-named, trans-named, prove_hyp-named, axiom-named}
 use Rattle.ot_machine.proofs.ObjectKinds.{or_bad-is}
-use Rattle.ot_plain.proofs.Results.{bind-ok, same_Ok, some_or-ok, unless-ok}
+use Rattle.ot_logic.proofs.Results.{bind-ok, same_Ok, some_or-ok, unless-ok}
 
 module _ (P : Name → Type 0) (has : HasPrimitives P) where
   abbrev T : Ty Name → Type 0

@@ -1,12 +1,12 @@
 -- What is read as an object of a kind is one, and what is read of a good list is read.
 use Rattle.std.proofs.Common.{◌≡◌, Result, Ok, Err, ap}
-use Rattle.ot_plain.specs.Names.{Name}
-use Rattle.ot_plain.specs.Trees.{Ty, Variable, Tm, Sequent}
-use Rattle.ot_plain.specs.Faults.{Fault}
+use Rattle.ot_logic.specs.Names.{Name}
+use Rattle.ot_logic.specs.Trees.{Ty, Variable, Tm, Sequent}
+use Rattle.ot_logic.specs.Faults.{Fault}
 use Rattle.ot_machine.specs.Objects.{Object, Objects, name, list, a_type, variable, term, theorem}
 use Rattle.ot_machine.specs.Places.{as_name, as_list, as_type, as_variable, as_term, as_theorem}
 use Rattle.ot_machine.specs.Parts.{or_bad}
-use Rattle.ot_plain.proofs.Results.{same_Ok}
+use Rattle.ot_logic.proofs.Results.{same_Ok}
 
 pub name-is : (o : Object) (n : Name) → as_name o ≡ Ok n → o ≡ name n
 name-is (name m) n e = ap name (same_Ok m n e)

@@ -5,10 +5,11 @@ use Rattle.std.specs.Map.{lookup}
 use Rattle.std.proofs.Common.{refl, sym, ap, subst, ◌∙◌, arith, inl, inr, eqb-true}
 use Rattle.std.proofs.lemmas.Bool.{and_parts}
 use Rattle.std.proofs.lemmas.Option.{same_Some}
-use Rattle.ot_plain.specs.Names.{Name}
-use Rattle.ot_plain.specs.Naming.{names}
-use Rattle.ot_plain.specs.Trees.{TyVar, Variable, Named, NVar, NConst, NApp, NAbs}
-use Rattle.ot_plain.specs.Hol.{same_var, IsFreeIn}
+use Rattle.ot_logic.specs.Names.{Name}
+use Rattle.ot_logic.specs.Naming.{names}
+use Rattle.ot_logic.specs.Trees.{TyVar, Variable, Named, NVar, NConst, NApp, NAbs}
+use Rattle.ot_logic.specs.Hol.{same_var}
+use Rattle.ot_logic.specs.NamedTerms.{IsFreeIn}
 use Rattle.ot_laws.proofs.Tests.{tells_names, same_var-is}
 use Rattle.ot_kernel.specs.State.{State, name_at, type_at, named_at, Keeps}
 use Rattle.ot_machine.specs.Occurrences.{same_occurrence, IsOccurrence, AreOccurrences}

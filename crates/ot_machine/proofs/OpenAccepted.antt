@@ -2,12 +2,12 @@
 use Rattle.std.specs.Prelude.{◌≡◌, ◌<◌, ◌++◌, ◌⊎◌, ℕ, suc, Bool, true, false}
 use Rattle.std.specs.Prelude.{List, [], ◌∷◌, length, map, Result, Ok, Err}
 use Rattle.std.proofs.Common.{refl, sym, ap, ◌∙◌, inl, inr, arith, length-append}
-use Rattle.ot_plain.specs.Names.{Name}
-use Rattle.ot_plain.specs.Naming.{names}
-use Rattle.ot_plain.specs.Trees.{Ty, TyOp, Tm, Free, Con, Bound, App, Abs, Sequent, Definition, TyDef}
-use Rattle.ot_plain.specs.Hol.{bool_ty, HasType, is_shallow, tys_of_vars, theorems}
-use Rattle.ot_plain.specs.Faults.{Fault, Nesting}
-use Rattle.ot_plain.specs.Answers.{◌>>=◌, unless}
+use Rattle.ot_logic.specs.Names.{Name}
+use Rattle.ot_logic.specs.Naming.{names}
+use Rattle.ot_logic.specs.Trees.{Ty, TyOp, Tm, Free, Con, Bound, App, Abs, Sequent, Definition, TyDef}
+use Rattle.ot_logic.specs.Hol.{bool_ty, HasType, is_shallow, tys_of_vars, theorems}
+use Rattle.ot_logic.specs.Faults.{Fault, Nesting}
+use Rattle.ot_logic.specs.Answers.{◌>>=◌, unless}
 use Rattle.ot_kernel.specs.Defining.{type_definition}
 use Rattle.ot_kernel.specs.Opening.{var_r, beta_at, open_type_definition, opened_by}
 use Rattle.ot_kernel.specs.State as kernel
@@ -25,7 +25,7 @@ use Rattle.ot_machine.proofs.Defined.{twice-ok, first-ok, double}
 use Rattle.ot_machine.proofs.Stepped.{definitions_of-made, with_definition, defined_then, defined-refused}
 use Rattle.ot_machine.proofs.OpenRow.{open-pushed, open-refused}
 use Rattle.ot_machine.proofs.Canonical.{name-later, names-later, theorem-later, names-inside}
-use Rattle.ot_plain.proofs.Results.{bind-ok, unless-ok}
+use Rattle.ot_logic.proofs.Results.{bind-ok, unless-ok}
 
 never : {X E : Type 0} (r : Result (Unit {0}) E) (f : E) (x : X) → (r >>= λ _. Err f) ≡ Ok x → ⊥
 never (Ok u) f x e = cc

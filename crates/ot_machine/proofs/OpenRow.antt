@@ -3,14 +3,14 @@ use Rattle.std.specs.Prelude.{◌≡◌, ◌&&◌, true, false, List, [], ◌∷
 use Rattle.std.specs.List.{list_all}
 use Rattle.std.proofs.Common.{refl, sym, ap, ◌∙◌, inl, inr}
 use Rattle.std.proofs.lemmas.Bool.{and_parts}
-use Rattle.ot_plain.specs.Names.{Name}
-use Rattle.ot_plain.specs.Naming.{names}
-use Rattle.ot_plain.specs.Trees.{Ty, TyOp, Tm, Free, Con, Bound, App, Abs}
-use Rattle.ot_plain.specs.Trees.{Sequent, Definition, TyDef, ConSymbol, OpSymbol}
-use Rattle.ot_plain.specs.Hol.{fun_ty, bool_ty, type_in, type_of, HasType, IsClosed, is_shallow, is_shallow_sequent}
-use Rattle.ot_plain.specs.Hol.{equation, sequent_of, tys_of_vars, theorems, vars_tm, symbols_of}
-use Rattle.ot_plain.specs.Faults.{Fault, Nesting, HypothesesPresent, BadTypeVars, NotClosed}
-use Rattle.ot_plain.specs.Answers.{◌>>=◌, unless}
+use Rattle.ot_logic.specs.Names.{Name}
+use Rattle.ot_logic.specs.Naming.{names}
+use Rattle.ot_logic.specs.Trees.{Ty, TyOp, Tm, Free, Con, Bound, App, Abs}
+use Rattle.ot_logic.specs.Trees.{Sequent, Definition, TyDef, ConSymbol, OpSymbol}
+use Rattle.ot_logic.specs.Hol.{fun_ty, bool_ty, type_in, type_of, HasType, IsClosed, is_shallow, is_shallow_sequent}
+use Rattle.ot_logic.specs.Hol.{equation, sequent_of, tys_of_vars, theorems, vars_tm, symbols_of}
+use Rattle.ot_logic.specs.Faults.{Fault, Nesting, HypothesesPresent, BadTypeVars, NotClosed}
+use Rattle.ot_logic.specs.Answers.{◌>>=◌, unless}
 use Rattle.ot_laws.specs.Conditions.{is_empty, is_closed, are_distinct, are_names_of, checked_symbols, checked_type}
 use Rattle.ot_laws.proofs.Tests.{tells_names}
 use Rattle.ot_laws.proofs.Typing.{applied-some, type_of-is}
@@ -25,7 +25,7 @@ use Rattle.ot_kernel.specs.Opening.{var_a, var_r, beta_over}
 use Rattle.ot_kernel.specs.Opening as plain
 use Rattle.ot_machine.specs.Version5.{abs_origin, abs_value, rep_origin, open_theorems}
 use Rattle.ot_machine.proofs.OpenValue.{IsOpening, IsReturn, rep-value, rep-refused, abs-value}
-use Rattle.ot_plain.proofs.Results.{bind-ok, unless-ok}
+use Rattle.ot_logic.proofs.Results.{bind-ok, unless-ok}
 
 pub closed-of : (t : Tm Name) → is_closed names t ≡ true → IsClosed names t
 closed-of (Free v) h = absurd (cc)

@@ -3,18 +3,19 @@ use Rattle.std.specs.Prelude.{◌≡◌, ◌≤◌, nat_le, ◌&&◌, ℕ, suc, 
 use Rattle.std.specs.Option.{option_map}
 use Rattle.std.proofs.Common.{refl, sym, ap, ◌∙◌, arith, subst}
 use Rattle.std.proofs.lemmas.Bool.{le-leb, and_parts, and_from}
-use Rattle.ot_plain.specs.Names.{Name}
-use Rattle.ot_plain.specs.Naming.{names}
-use Rattle.ot_plain.specs.Trees.{Ty, Variable, Tm, Free, Con, Bound, App, Abs}
-use Rattle.ot_plain.specs.Trees.{Named, NVar, NConst, NApp, NAbs, Sequent}
-use Rattle.ot_plain.specs.Hol.{depth_limit, fun_ty, bool_ty, type_in, HasType, IsClosed, IsWithin}
-use Rattle.ot_plain.specs.Hol.{depth_ty, depth_tm, is_shallow_ty, is_shallow_type, has_shallow_types}
-use Rattle.ot_plain.specs.Hol.{is_shallow, same_var, close_at, open_at, nameless, named_type}
-use Rattle.ot_plain.specs.Answers.{◌>>=◌}
-use Rattle.ot_plain.specs.Faults.{Fault, Nesting}
-use Rattle.ot_plain.specs.Rules.{refl_rule, app_thm_rule, beta_conv_rule, sym_rule, trans_rule}
-use Rattle.ot_plain.specs.declared.command.Cmd.{Cmd}
-use Rattle.ot_plain.specs.declared.command.Cmd.TheVariants as words
+use Rattle.ot_logic.specs.Names.{Name}
+use Rattle.ot_logic.specs.Naming.{names}
+use Rattle.ot_logic.specs.Trees.{Ty, Variable, Tm, Free, Con, Bound, App, Abs}
+use Rattle.ot_logic.specs.Trees.{Named, NVar, NConst, NApp, NAbs, Sequent}
+use Rattle.ot_logic.specs.Hol.{depth_limit, fun_ty, bool_ty, type_in, HasType, IsClosed}
+use Rattle.ot_logic.specs.Hol.{IsWithin, depth_ty, depth_tm, is_shallow_ty, is_shallow_type}
+use Rattle.ot_logic.specs.Hol.{has_shallow_types, is_shallow, same_var, close_at, open_at}
+use Rattle.ot_logic.specs.NamedTerms.{nameless, named_type}
+use Rattle.ot_logic.specs.Answers.{◌>>=◌}
+use Rattle.ot_logic.specs.Faults.{Fault, Nesting}
+use Rattle.ot_logic.specs.Rules.{refl_rule, app_thm_rule, beta_conv_rule, sym_rule, trans_rule}
+use Rattle.ot_logic.specs.declared.command.Cmd.{Cmd}
+use Rattle.ot_logic.specs.declared.command.Cmd.TheVariants as words
 use Rattle.ot_laws.proofs.Tests.{tells_names, same_var-is}
 use Rattle.ot_laws.proofs.Terms.{close_at_fresh}
 use Rattle.ot_laws.proofs.Opened.{place_below}

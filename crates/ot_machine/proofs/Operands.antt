@@ -2,15 +2,15 @@
 use Rattle.std.specs.Prelude.{◌≡◌, ◌==◌, List, [], ◌∷◌, length, Ok}
 use Rattle.std.proofs.Common.{refl, ap, ◌∙◌, arith}
 use Rattle.std.proofs.lemmas.Bool.{eqb-true}
-use Rattle.ot_plain.specs.Names.{Name}
-use Rattle.ot_plain.specs.Faults.{StackEmpty}
-use Rattle.ot_plain.specs.Answers.{◌>>=◌, unless}
+use Rattle.ot_logic.specs.Names.{Name}
+use Rattle.ot_logic.specs.Faults.{StackEmpty}
+use Rattle.ot_logic.specs.Answers.{◌>>=◌, unless}
 use Rattle.ot_trace.specs.Origins.{Origin, Origins, NoOrigins, MoreOrigins}
 use Rattle.ot_machine.specs.Objects.{Object}
 use Rattle.ot_machine.specs.Makers.{Read, of_none, of_top, of_two}
 use Rattle.ot_machine.specs.Values.{value, values, value_at, applied}
 use Rattle.ot_machine.proofs.Tops.{same-ok}
-use Rattle.ot_plain.proofs.Results.{bind-ok, unless-ok}
+use Rattle.ot_logic.proofs.Results.{bind-ok, unless-ok}
 
 -- values, one after another
 pub record IsFirstValue (os : Origins Name) (v : Object) (vs : List Object) : Type 0 where

@@ -1,8 +1,8 @@
 -- A run so far.
 use Rattle.std.specs.Prelude.{Result, Ok, Err, Some}
 use Rattle.std.proofs.Common.{◌≡◌, ℕ, zero, suc, List, sym, ap, ◌∙◌, refl}
-use Rattle.ot_plain.specs.Names.{Name}
-use Rattle.ot_plain.specs.Faults as stated
+use Rattle.ot_logic.specs.Names.{Name}
+use Rattle.ot_logic.specs.Faults as stated
 use Rattle.ot_scan.specs.Lines.{Lines, Finished, Broken, Next}
 use Rattle.ot_kernel.specs.State as kernel
 use Rattle.ot_machine.specs.declared.fault.Fault.{Fault}

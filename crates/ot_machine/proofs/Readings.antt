@@ -2,9 +2,9 @@
 use Rattle.std.specs.Prelude.{◌≡◌, ℕ, [], slice_get, false, is_some, Option, Some, None, Ok}
 use Rattle.std.proofs.Common.{sym, ◌∙◌, ap}
 use Rattle.std.proofs.lemmas.Option.{get_or_from_slice_get}
-use Rattle.ot_plain.specs.Names.{Name}
-use Rattle.ot_plain.specs.Faults as faults
-use Rattle.ot_plain.specs.Answers.{some_or}
+use Rattle.ot_logic.specs.Names.{Name}
+use Rattle.ot_logic.specs.Faults as faults
+use Rattle.ot_logic.specs.Answers.{some_or}
 use Rattle.ot_kernel.specs.State as kernel
 use Rattle.ot_machine.specs.declared.fault.Fault.TheVariants as code
 use Rattle.ot_machine.specs.Answers.{Refuses}

@@ -4,12 +4,12 @@ use Rattle.std.proofs.Common.{length, map, refl, sym, ap, subst, arith, length-a
 use Rattle.std.specs.List.{flat_map, AllByRecursion}
 use Rattle.std.proofs.lemmas.Bool.Decides.{eqb_tells}
 use Rattle.std.proofs.lemmas.List.{length-map}
-use Rattle.ot_plain.specs.Lists.{IsMember}
-use Rattle.ot_plain.specs.Names.{Name, Spells, Item, Plain, Escaped, item_text}
-use Rattle.ot_plain.specs.Names.{item_byte, item_of, IsItem, joined, spelled}
+use Rattle.ot_logic.specs.Lists.{IsMember}
+use Rattle.ot_logic.specs.Names.{Name, Spells, Item, Plain, Escaped, item_text}
+use Rattle.ot_logic.specs.Names.{item_byte, item_of, IsItem, joined, spelled}
 use Rattle.ot_scan.specs.Lines.{IsLineText}
 use Rattle.ot_machine.specs.Writable.{IsWritable}
-use Rattle.ot_plain.proofs.Members.{IsMember-cases, IsMember-left, IsMember-right}
+use Rattle.ot_logic.proofs.Members.{IsMember-cases, IsMember-left, IsMember-right}
 
 -- ---- a spelling without needless backslashes
 -- a byte with a backslash, or without

@@ -3,12 +3,12 @@ use Rattle.std.specs.Prelude.{◌≡◌, ◌<◌, ◌+◌, ℕ, List, [], ◌∷
 use Rattle.std.proofs.Common.{refl, sym, ap, subst, ◌∙◌, arith}
 use Rattle.std.proofs.lemmas.List.{length_push}
 use Rattle.std.proofs.lemmas.Option.{get_or_from_slice_get}
-use Rattle.ot_plain.specs.Names.{Name}
-use Rattle.ot_plain.specs.Trees.{Bound, Sequent}
-use Rattle.ot_plain.specs.Faults.{Fault}
-use Rattle.ot_plain.specs.Answers.{◌>>=◌}
-use Rattle.ot_plain.specs.declared.command.Cmd.{Cmd}
-use Rattle.ot_plain.proofs.InternedLemmas.{slice_get-last}
+use Rattle.ot_logic.specs.Names.{Name}
+use Rattle.ot_logic.specs.Trees.{Bound, Sequent}
+use Rattle.ot_logic.specs.Faults.{Fault}
+use Rattle.ot_logic.specs.Answers.{◌>>=◌}
+use Rattle.ot_logic.specs.declared.command.Cmd.{Cmd}
+use Rattle.ot_logic.proofs.InternedLemmas.{slice_get-last}
 use Rattle.ot_kernel.specs.State as kernel
 use Rattle.ot_kernel.specs.Answers.{Concludes, RefusesRule}
 use Rattle.ot_kernel.specs.declared.fault.RuleFault.{RuleFault}
@@ -26,7 +26,7 @@ use Rattle.ot_machine.specs.Rows.{Row, making}
 use Rattle.ot_machine.specs.Step.{on_stack}
 use Rattle.ot_machine.specs.Meaning.{object_of, lists_of, article_of, run_of, state_of, IsOf, Leaves}
 use Rattle.ot_machine.specs.Stays.{Replaces}
-use Rattle.ot_machine.specs.Answers.{Turns, Moves}
+use Rattle.ot_machine.specs.Answers.{TakesRow, StepsTo}
 use Rattle.ot_machine.specs.Concluding.{Gives, concluding}
 use Rattle.ot_machine.proofs.Kept.{grows-on}
 use Rattle.ot_machine.proofs.Refusals.{refuses-rule}
@@ -64,7 +64,7 @@ after n w s r = on_stack (concluding n w r) s
 
 module _ (s : Session) (m : Machine) (n : ℕ) (w : Cmd) (stated : Stated) where
   pub conclude-refused : (e : RuleFault) → IsOf s m → RefusesRule e stated
-      → Turns (Err (rule_fault e)) (on_stack (concluding n w stated)) s m s m
+      → TakesRow (Err (rule_fault e)) (on_stack (concluding n w stated)) s m s m
   conclude-refused e of h =
       let r = refuses-rule s.kernel e stated h in
       record { moves = (refl, (r.0, λ f p. ap (after n w (state_of s m)) (r.1 f p))); grown = grows-same s; of = of }
@@ -86,8 +86,8 @@ module _ (s t u : Session) (m n : Machine) (w : Cmd) (stated : Stated) (r : Resu
     (result : Result (Unit {0}) code.Fault) where
   pub by-rule : Leaves s t m → Concludes r stated s.kernel t.kernel
       → made_by (maker w) (λ k. object_at k (article_of s m).stack) ≡ (stated >>= λ q. Ok (theorem q))
-      → (Gives t.kernel r stated → Turns result (on_stack (concluding (arity (maker w)) w stated)) t m u n)
-      → Turns result (on_stack (making w)) s m u n
+      → (Gives t.kernel r stated → TakesRow result (on_stack (concluding (arity (maker w)) w stated)) t m u n)
+      → TakesRow result (on_stack (making w)) s m u n
   by-rule kept concludes made turns =
       let taken = on_stack (concluding (arity (maker w)) w stated) in
       let old : State = state_of s m in
@@ -99,8 +99,8 @@ module _ (s t u : Session) (m n : Machine) (w : Cmd) (stated : Stated) (r : Resu
       ap (λ r. (r >>= λ stack. Ok (record old.article { stack = stack }))
       >>= λ article. Ok (record old { article = article })) (sym row) in
       record {
-        moves = subst (λ z. Moves u.kernel result z old (state_of u n)) rows
-            (subst (λ z. Moves u.kernel result (taken z) z (state_of u n)) same x.moves);
+        moves = subst (λ z. StepsTo u.kernel result z old (state_of u n)) rows
+            (subst (λ z. StepsTo u.kernel result (taken z) z (state_of u n)) same x.moves);
         grown = grows-on (leaves-grow s t m kept) x.grown;
         of = x.of;
       }
@@ -111,7 +111,7 @@ pub turned : {E : Type 0} {x : Unit {0}} (s t u : Session) (m n : Machine) (w : 
     ≡ Ok (object_of t.kernel (lists_of t m) c)
     → Replaces {E = E} (Ok x) (arity (maker w)) c
     (Make w (origins_of (top (arity (maker w)) (article_of t m).stack))) t m u n
-    → Turns (Ok tt) (on_stack (making w)) s m u n
+    → TakesRow (Ok tt) (on_stack (making w)) s m u n
 turned s t u m n w c kept made there =
     let stack = (article_of s m).stack in
     let o = object_of t.kernel (lists_of t m) c in

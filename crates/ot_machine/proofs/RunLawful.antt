@@ -5,9 +5,9 @@ use Rattle.std.specs.FinMap.{get, empty, get-empty}
 use Rattle.std.proofs.Common.{refl, sym, ap, ◌∙◌}
 use Rattle.std.proofs.lemmas.Option.{none-some}
 use Rattle.std.proofs.lemmas.List.Elements.{All-nil}
-use Rattle.ot_plain.specs.Names.{Name}
-use Rattle.ot_plain.specs.Faults.{Fault}
-use Rattle.ot_plain.specs.Answers.{◌>>=◌}
+use Rattle.ot_logic.specs.Names.{Name}
+use Rattle.ot_logic.specs.Faults.{Fault}
+use Rattle.ot_logic.specs.Answers.{◌>>=◌}
 use Rattle.ot_scan.specs.Words.{word}
 use Rattle.ot_scan.specs.Lines.{Lines, Finished, Broken, Next}
 use Rattle.ot_machine.specs.States.{Entry, Given, State, Context, fresh_run}
@@ -26,7 +26,7 @@ use Rattle.ot_machine.proofs.Fewer.{none-fewer}
 use Rattle.ot_machine.proofs.DefinitionFewer.{definition-fewer}
 use Rattle.ot_machine.proofs.Growing.{same-basis, larger-then, givens-more, exports-more}
 use Rattle.ot_machine.proofs.StepLawful.{step-lawful}
-use Rattle.ot_plain.proofs.Results.{bind-ok}
+use Rattle.ot_logic.proofs.Results.{bind-ok}
 
 module _ (P : Name → Type 0) (has : HasVersion5 P) where
   kept-same : (s : State) → IsLawful P s → Keeps P s s

@@ -6,13 +6,13 @@ use Rattle.std.proofs.Common.{refl, sym, subst}
 use Rattle.std.proofs.lemmas.Option.{same_Some}
 use Rattle.std.proofs.lemmas.List.{map-append}
 use Rattle.std.proofs.lemmas.List.Elements.{All-nil, All-cons, All-head, All-tail, All-append}
-use Rattle.ot_plain.specs.Lists.{IsMember}
-use Rattle.ot_plain.specs.Names.{Name}
-use Rattle.ot_plain.specs.Naming.{names}
-use Rattle.ot_plain.specs.Trees.{Tm, Sequent}
-use Rattle.ot_plain.specs.Hol.{same_sequent}
-use Rattle.ot_plain.specs.Faults.{Fault}
-use Rattle.ot_plain.specs.declared.command.Cmd.TheVariants as words
+use Rattle.ot_logic.specs.Lists.{IsMember}
+use Rattle.ot_logic.specs.Names.{Name}
+use Rattle.ot_logic.specs.Naming.{names}
+use Rattle.ot_logic.specs.Trees.{Tm, Sequent}
+use Rattle.ot_logic.specs.Hol.{same_sequent}
+use Rattle.ot_logic.specs.Faults.{Fault}
+use Rattle.ot_logic.specs.declared.command.Cmd.TheVariants as words
 use Rattle.ot_kernel.specs.Axioms.{axiom_rule}
 use Rattle.ot_trace.specs.Origins.{Origins, Make}
 use Rattle.ot_machine.specs.Objects.{theorem}
@@ -27,7 +27,7 @@ use Rattle.ot_machine.proofs.Growing.{same-basis, rests-more, are-more, fits-mor
 use Rattle.ot_machine.proofs.Growing.{entries-more, givens-more, exports-more}
 use Rattle.ot_machine.proofs.StackRows.{AllFit}
 use Rattle.ot_machine.proofs.Apart.{apart-push, not-found}
-use Rattle.ot_plain.proofs.Members.{IsMember-last, IsMember-left}
+use Rattle.ot_logic.proofs.Members.{IsMember-last, IsMember-left}
 
 -- what is found is one of the list
 pub all-found : {X : Type 0} (Q : X → Type 0) (test : X → Bool) (xs : List X) (x : X) → All Q xs

@@ -6,12 +6,12 @@ use Rattle.std.specs.List.{All}
 use Rattle.std.proofs.Common.{refl, sym, ap, ◌∙◌, subst}
 use Rattle.std.proofs.lemmas.Bool.{ltb-true}
 use Rattle.std.proofs.lemmas.List.Elements.{All-nil, All-cons, All-append, All-take}
-use Rattle.ot_plain.specs.Names.{Name}
-use Rattle.ot_plain.specs.Naming.{names}
-use Rattle.ot_plain.specs.Faults.{Fault, StackEmpty, VersionUnsupported}
-use Rattle.ot_plain.specs.Answers.{◌>>=◌, some_or, unless}
-use Rattle.ot_plain.specs.declared.command.Cmd.{Cmd}
-use Rattle.ot_plain.specs.declared.command.Cmd.TheVariants as words
+use Rattle.ot_logic.specs.Names.{Name}
+use Rattle.ot_logic.specs.Naming.{names}
+use Rattle.ot_logic.specs.Faults.{Fault, StackEmpty, VersionUnsupported}
+use Rattle.ot_logic.specs.Answers.{◌>>=◌, some_or, unless}
+use Rattle.ot_logic.specs.declared.command.Cmd.{Cmd}
+use Rattle.ot_logic.specs.declared.command.Cmd.TheVariants as words
 use Rattle.ot_interp.specs.Interpretation.{renamed}
 use Rattle.ot_trace.specs.Origins.{Origin, Origins, Make, NoOrigins, operand}
 use Rattle.ot_machine.specs.Objects.{Object, Objects, list}
@@ -28,7 +28,7 @@ use Rattle.ot_machine.proofs.MadeFits.{made-fits}
 use Rattle.ot_machine.proofs.WordKinds.{name-origin}
 use Rattle.ot_machine.proofs.ListOrigin.{list-tree}
 use Rattle.ot_machine.proofs.ObjectKinds.{name-is, list-is}
-use Rattle.ot_plain.proofs.Results.{bind-ok}
+use Rattle.ot_logic.proofs.Results.{bind-ok}
 
 module _ (b : Basis) where
   abbrev pub AllFit : List Entry → Type 0

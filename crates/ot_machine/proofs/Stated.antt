@@ -2,14 +2,14 @@
 -- keeps.
 use Rattle.std.specs.Prelude.{◌≡◌, ◌<◌, ℕ, List, [], ◌∷◌, length, map, slice_index_or, Result, Ok, Err, OnErr}
 use Rattle.std.proofs.Common.{ap, sym, ◌∙◌, arith}
-use Rattle.ot_plain.specs.Names.{Name}
-use Rattle.ot_plain.specs.Naming.{names}
-use Rattle.ot_plain.specs.Faults.{Fault}
-use Rattle.ot_plain.proofs.TableLemmas.{Extends-refl}
+use Rattle.ot_logic.specs.Names.{Name}
+use Rattle.ot_logic.specs.Naming.{names}
+use Rattle.ot_logic.specs.Faults.{Fault}
+use Rattle.ot_logic.proofs.TableLemmas.{Extends-refl}
 use Rattle.ot_term.specs.declared.term.VarKey.{VarKey}
 use Rattle.ot_kernel.specs.Defining.{const_definition, list_definition}
 use Rattle.ot_kernel.specs.State as kernel
-use Rattle.ot_plain.specs.declared.command.Cmd.TheVariants as words
+use Rattle.ot_logic.specs.declared.command.Cmd.TheVariants as words
 use Rattle.ot_trace.specs.Origins.{Origin, Named, Define, from_list}
 use Rattle.ot_machine.specs.States.{Entry, RunState}
 use Rattle.ot_machine.specs.Rows.{defined, origin_at, type_defining}

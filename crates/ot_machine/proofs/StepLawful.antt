@@ -1,11 +1,11 @@
 -- Each step keeps a state lawful.
 use Rattle.std.specs.Prelude.{◌≡◌, List, Result, Ok}
 use Rattle.std.proofs.Common.{refl, ap, ◌∙◌, subst}
-use Rattle.ot_plain.specs.Names.{Name}
-use Rattle.ot_plain.specs.Faults.{Fault}
-use Rattle.ot_plain.specs.Answers.{◌>>=◌}
-use Rattle.ot_plain.specs.declared.command.Cmd.{Cmd}
-use Rattle.ot_plain.specs.declared.command.Cmd.TheVariants as words
+use Rattle.ot_logic.specs.Names.{Name}
+use Rattle.ot_logic.specs.Faults.{Fault}
+use Rattle.ot_logic.specs.Answers.{◌>>=◌}
+use Rattle.ot_logic.specs.declared.command.Cmd.{Cmd}
+use Rattle.ot_logic.specs.declared.command.Cmd.TheVariants as words
 use Rattle.ot_scan.specs.Words.{WordValue}
 use Rattle.ot_trace.specs.Origins.{Number, Named}
 use Rattle.ot_machine.specs.Objects.{number, name}
@@ -27,7 +27,7 @@ use Rattle.ot_machine.proofs.RunRows.{answer}
 use Rattle.ot_machine.proofs.DischargeRow.{axiom-keeps}
 use Rattle.ot_machine.proofs.Version5Names.{type_op_5-keeps}
 use Rattle.ot_machine.proofs.DefinitionRows.{const-keeps, const_list-keeps, type_op-keeps}
-use Rattle.ot_plain.proofs.Results.{bind-ok}
+use Rattle.ot_logic.proofs.Results.{bind-ok}
 
 abbrev ok : ArticleState → Result ArticleState (Fault Name)
 ok a = Ok a

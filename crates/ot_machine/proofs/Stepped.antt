@@ -6,13 +6,13 @@ use Rattle.std.specs.List.{All}
 use Rattle.std.proofs.Common.{refl, sym, ap, ◌∙◌, subst, arith, length-append}
 use Rattle.std.proofs.Math.Seq.{take-append_seam}
 use Rattle.std.proofs.lemmas.List.Elements.{All-nil, All-cons, All-append}
-use Rattle.ot_plain.proofs.TableLemmas.{Extends-refl}
-use Rattle.ot_plain.specs.Names.{Name}
-use Rattle.ot_plain.specs.Naming.{names}
-use Rattle.ot_plain.specs.Trees.{Sequent, Definition}
-use Rattle.ot_plain.specs.Hol.{theorems}
-use Rattle.ot_plain.specs.Faults.{Fault}
-use Rattle.ot_plain.specs.Answers.{◌>>=◌}
+use Rattle.ot_logic.proofs.TableLemmas.{Extends-refl}
+use Rattle.ot_logic.specs.Names.{Name}
+use Rattle.ot_logic.specs.Naming.{names}
+use Rattle.ot_logic.specs.Trees.{Sequent, Definition}
+use Rattle.ot_logic.specs.Hol.{theorems}
+use Rattle.ot_logic.specs.Faults.{Fault}
+use Rattle.ot_logic.specs.Answers.{◌>>=◌}
 use Rattle.ot_kernel.specs.Defining.{Defining}
 use Rattle.ot_kernel.specs.State as kernel
 use Rattle.ot_kernel.specs.Answers.{RefusesBy, IsSymbolIn}

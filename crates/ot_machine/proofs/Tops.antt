@@ -7,7 +7,7 @@ use Rattle.std.proofs.lemmas.Bool.{lt-ltb}
 use Rattle.std.proofs.lemmas.List.{drop_all}
 use Rattle.std.proofs.lemmas.Option.{slice_get-get_or}
 use Rattle.std.proofs.Math.ListN.{get_or}
-use Rattle.ot_plain.specs.Answers.{◌>>=◌}
+use Rattle.ot_logic.specs.Answers.{◌>>=◌}
 use Rattle.ot_machine.specs.States.{Entry}
 use Rattle.ot_machine.specs.Places.{entry_at, top}
 

@@ -2,15 +2,15 @@
 use Rattle.std.specs.Prelude.{◌≡◌, ◌-◌, ◌<◌, ℕ, List, [], ◌∷◌, ◌++◌, length, map, take, Result, Ok, Err}
 use Rattle.std.proofs.Common.{refl, sym, ap, subst, ◌∙◌, arith}
 use Rattle.std.proofs.lemmas.List.{length_push, take-append-le}
-use Rattle.ot_plain.specs.Names.{Name}
-use Rattle.ot_plain.specs.Trees.{TyOp, Variable, Tm, Sequent}
-use Rattle.ot_plain.specs.Hol.{tys_of_vars}
-use Rattle.ot_plain.specs.Faults.{Fault}
-use Rattle.ot_plain.specs.Answers.{◌>>=◌}
-use Rattle.ot_plain.specs.Naming.{names}
-use Rattle.ot_plain.specs.declared.command.Cmd.TheVariants as words
-use Rattle.ot_plain.specs.Table.{Extends}
-use Rattle.ot_plain.proofs.TableLemmas.{Extends-refl}
+use Rattle.ot_logic.specs.Names.{Name}
+use Rattle.ot_logic.specs.Trees.{TyOp, Variable, Tm, Sequent}
+use Rattle.ot_logic.specs.Hol.{tys_of_vars}
+use Rattle.ot_logic.specs.Faults.{Fault}
+use Rattle.ot_logic.specs.Answers.{◌>>=◌}
+use Rattle.ot_logic.specs.Naming.{names}
+use Rattle.ot_logic.specs.declared.command.Cmd.TheVariants as words
+use Rattle.ot_logic.specs.Table.{Extends}
+use Rattle.ot_logic.proofs.TableLemmas.{Extends-refl}
 use Rattle.ot_interp.specs.Interpretation.{renamed}
 use Rattle.ot_kernel.specs.State as kernel
 use Rattle.ot_kernel.specs.Axioms.{axiom_rule}
@@ -39,11 +39,11 @@ use Rattle.ot_machine.specs.Assumptions.{term_entries, used}
 use Rattle.ot_machine.specs.Defining.{closed_defined, defined_in}
 use Rattle.ot_machine.specs.Step.{Command, command_of, version_rule, define_type_row, on_stack, row, counted, step}
 use Rattle.ot_machine.specs.Meaning.{article_of, run_of, state_of, IsOf, Grows, Leaves}
-use Rattle.ot_machine.specs.Answers.{Refuses, Moves, Turns}
+use Rattle.ot_machine.specs.Answers.{Refuses, StepsTo, TakesRow}
 use Rattle.ot_machine.proofs.Kept.{at-Extends, keeps-same, trace-same}
 use Rattle.ot_machine.proofs.Tops.{same-ok}
 use Rattle.ot_machine.proofs.ObjectKinds.{term-is}
-use Rattle.ot_plain.proofs.Results.{bind-ok, bind-to}
+use Rattle.ot_logic.proofs.Results.{bind-ok, bind-to}
 
 -- nothing grew
 pub grows-same : (s : Session) → Grows s s
@@ -113,15 +113,15 @@ state-defined s t m o n count view symbols theorems kept changed same =
 -- a refusal that is handed on
 pub refused-moves : (result : Result (Unit {0}) code.Fault) (e : code.Fault) (l : kernel.State)
     (stated : Result State (Fault Name)) (old new : State) → result ≡ Err e → new ≡ old → Refuses l e stated
-    → Moves l result stated old new
+    → StepsTo l result stated old new
 refused-moves result e l stated old new is same refuses =
-    subst (λ r. Moves l r stated old new) (sym is) (same, refuses)
+    subst (λ r. StepsTo l r stated old new) (sym is) (same, refuses)
 
 pub refused-turn : (result : Result (Unit {0}) code.Fault) (e : code.Fault) (row : State → Result State (Fault Name))
     (s : Session) (m : Machine) (t : Session) (n : Machine) → result ≡ Err e → state_of t n ≡ state_of s m
-    → Refuses t.kernel e (row (state_of s m)) → Grows s t → IsOf t n → Turns result row s m t n
+    → Refuses t.kernel e (row (state_of s m)) → Grows s t → IsOf t n → TakesRow result row s m t n
 refused-turn result e row s m t n is same refuses grown of =
-    subst (λ r. Turns r row s m t n) (sym is) (record { moves = (same, refuses); grown = grown; of = of })
+    subst (λ r. TakesRow r row s m t n) (sym is) (record { moves = (same, refuses); grown = grown; of = of })
 
 -- the row of a type operator, after what it reads
 abbrev pub type_op_after : Version → State → Sequent Name → List Name → (rep abs n : Name) → Result State (Fault Name)

@@ -9,12 +9,12 @@ use Rattle.ot_laws.proofs.Typing.{result_ty-some, abs-some}
 use Rattle.std.specs.List.{All}
 use Rattle.std.proofs.Common.{refl, sym, ap, ◌∙◌, subst, arith}
 use Rattle.std.proofs.lemmas.List.Elements.{All-nil, All-cons, All-head, All-tail}
-use Rattle.ot_plain.specs.Names.{Name}
-use Rattle.ot_plain.specs.Naming.{names}
-use Rattle.ot_plain.specs.Trees.{Ty, Tys, TyVar, TyOp, NoTys, MoreTys, Tm, Free, Con, Bound, App, Abs}
-use Rattle.ot_plain.specs.Hol.{type_in, type_of, result_ty, applied, tys_of_vars, fun_ty, bool_ty, depth_limit}
-use Rattle.ot_plain.specs.Faults.{Fault}
-use Rattle.ot_plain.specs.declared.command.Cmd.TheVariants as words
+use Rattle.ot_logic.specs.Names.{Name}
+use Rattle.ot_logic.specs.Naming.{names}
+use Rattle.ot_logic.specs.Trees.{Ty, Tys, TyVar, TyOp, NoTys, MoreTys, Tm, Free, Con, Bound, App, Abs}
+use Rattle.ot_logic.specs.Hol.{type_in, type_of, result_ty, applied, tys_of_vars, fun_ty, bool_ty, depth_limit}
+use Rattle.ot_logic.specs.Faults.{Fault}
+use Rattle.ot_logic.specs.declared.command.Cmd.TheVariants as words
 use Rattle.ot_interp.specs.Interpretation.{renamed}
 use Rattle.ot_kernel.specs.Defining.{type_definition}
 use Rattle.ot_trace.specs.Origins.{Origin, Named, Define, make_one, make_two, from_list}
@@ -35,7 +35,7 @@ use Rattle.ot_machine.proofs.StackRows.{AllFit, name-held, constant-fits, type_o
 use Rattle.ot_machine.proofs.ArticleRows.{theorem-at, list-at}
 use Rattle.ot_machine.proofs.RunRows.{answer}
 use Rattle.ot_machine.proofs.DefinitionRows.{defined-pushes, type-read}
-use Rattle.ot_plain.proofs.Results.{bind-ok}
+use Rattle.ot_logic.proofs.Results.{bind-ok}
 
 module _ (b : Basis) (has : HasVersion5 b.IsNamed) where
   abbrev P : Name → Type 0

@@ -2,16 +2,16 @@
 use Rattle.std.specs.Prelude.{◌≡◌, ℕ, zero, suc, [], Result, Ok, Err, nat_le}
 use Rattle.std.specs.Prelude.{if◌then◌else◌, Bool, true, false, slice_get}
 use Rattle.std.proofs.Common.{refl, sym, ap, ◌∙◌}
-use Rattle.ot_plain.specs.Names.{Name}
-use Rattle.ot_plain.specs.Naming.{names}
-use Rattle.ot_plain.specs.Trees.{TyVar, Free, Con, Definition}
-use Rattle.ot_plain.specs.Hol.{theorems, depth_limit}
-use Rattle.ot_plain.specs.Faults.{Fault, StackEmpty, Nesting}
-use Rattle.ot_plain.specs.Answers.{◌>>=◌, some_or}
-use Rattle.ot_plain.specs.declared.command.Cmd.{Cmd}
-use Rattle.ot_plain.specs.declared.command.Cmd.TheVariants as words
-use Rattle.ot_plain.specs.declared.kind.Kind.{Kind}
-use Rattle.ot_plain.specs.declared.kind.Kind.TheVariants as kinds
+use Rattle.ot_logic.specs.Names.{Name}
+use Rattle.ot_logic.specs.Naming.{names}
+use Rattle.ot_logic.specs.Trees.{TyVar, Free, Con, Definition}
+use Rattle.ot_logic.specs.Hol.{theorems, depth_limit}
+use Rattle.ot_logic.specs.Faults.{Fault, StackEmpty, Nesting}
+use Rattle.ot_logic.specs.Answers.{◌>>=◌, some_or}
+use Rattle.ot_logic.specs.declared.command.Cmd.{Cmd}
+use Rattle.ot_logic.specs.declared.command.Cmd.TheVariants as words
+use Rattle.ot_logic.specs.declared.kind.Kind.{Kind}
+use Rattle.ot_logic.specs.declared.kind.Kind.TheVariants as kinds
 use Rattle.ot_trace.specs.Origins.{Origin, Origins, Number, Named, Make, Define, Outcome}
 use Rattle.ot_machine.specs.Objects.{Object, Objects, name, list, type_op, a_type, constant}
 use Rattle.ot_machine.specs.Objects.{variable, term, theorem, more_objects, nesting, kind_of}
@@ -19,14 +19,14 @@ use Rattle.ot_machine.specs.Places.{as_name, as_list, as_type_op, as_type, as_co
 use Rattle.ot_machine.specs.Places.{as_variable, as_term, as_theorem, as_each, arguments}
 use Rattle.ot_machine.specs.Substitutions.{maps_of}
 use Rattle.ot_kernel.specs.Axioms.{axiom_rule}
-use Rattle.ot_plain.specs.Rules.{op_rule, app_rule, abs_rule, refl_rule, assume_rule, eq_mp_rule}
-use Rattle.ot_plain.specs.Rules.{abs_thm_rule, app_thm_rule, deduct_antisym_rule, beta_conv_rule}
-use Rattle.ot_plain.specs.Rules.{subst_rule, sym_rule, trans_rule, prove_hyp_rule}
+use Rattle.ot_logic.specs.Rules.{op_rule, app_rule, abs_rule, refl_rule, assume_rule, eq_mp_rule}
+use Rattle.ot_logic.specs.Rules.{abs_thm_rule, app_thm_rule, deduct_antisym_rule, beta_conv_rule}
+use Rattle.ot_logic.specs.Rules.{subst_rule, sym_rule, trans_rule, prove_hyp_rule}
 use Rattle.ot_machine.specs.Makers.{Read, Maker, of_none, of_top, of_two, no_maker, maker}
 use Rattle.ot_machine.specs.Values.{value, values, applied, definition_of, theorem_of}
 use Rattle.ot_machine.proofs.Tops.{same-ok, no-ok}
 use Rattle.ot_machine.proofs.Operands.{no-operands, one-operand, two-operands}
-use Rattle.ot_plain.proofs.Results.{bind-ok}
+use Rattle.ot_logic.proofs.Results.{bind-ok}
 
 -- the kind of what a word makes; some kind where it makes nothing
 abbrev pub word_kind : Cmd → Kind

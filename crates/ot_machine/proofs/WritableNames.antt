@@ -9,20 +9,20 @@ use Rattle.std.specs.Fmt.{decimal}
 use Rattle.std.proofs.lemmas.Fmt.{digits_decimal, length-decimal-le}
 use Rattle.std.proofs.lemmas.Str.Parse.{IsNumeralModel, numerals_by_value}
 use Rattle.std.proofs.lemmas.Bool.Decides.{nat_tests}
-use Rattle.ot_plain.specs.Lists.{IsMember}
-use Rattle.ot_plain.specs.Names.{Name, Plain, item_text, item_byte, IsItem}
-use Rattle.ot_plain.specs.Hol.{depth_limit}
-use Rattle.ot_plain.specs.Reading.{name_read}
-use Rattle.ot_plain.specs.Faults.{Fault, BadName}
-use Rattle.ot_plain.specs.Answers.{some_or}
-use Rattle.ot_plain.proofs.Reading.{name_read-spells}
+use Rattle.ot_logic.specs.Lists.{IsMember}
+use Rattle.ot_logic.specs.Names.{Name, Plain, item_text, item_byte, IsItem}
+use Rattle.ot_logic.specs.Hol.{depth_limit}
+use Rattle.ot_logic.specs.Reading.{name_read}
+use Rattle.ot_logic.specs.Faults.{Fault, BadName}
+use Rattle.ot_logic.specs.Answers.{some_or}
+use Rattle.ot_logic.proofs.Reading.{name_read-spells}
 use Rattle.ot_machine.specs.Step.{Command, named}
 use Rattle.ot_machine.specs.NamesIn.{HasVersion5}
 use Rattle.ot_machine.specs.Writable.{IsWritable}
 use Rattle.ot_machine.specs.LawfulLaws.{CanBeNamed}
 use Rattle.ot_machine.proofs.Respelled.{name-of-line}
-use Rattle.ot_plain.proofs.Members.{IsMember-cases}
-use Rattle.ot_plain.proofs.Results.{bind-ok, some_or-ok}
+use Rattle.ot_logic.proofs.Members.{IsMember-cases}
+use Rattle.ot_logic.proofs.Results.{bind-ok, some_or-ok}
 
 -- ---- names of one component, whose bytes stand for themselves
 

@@ -1,7 +1,7 @@
 -- What the machine's calls answer, against the stated machine.
 use Rattle.std.specs.Prelude.{◌≡◌, ◌<◌, List, length, Result, Ok, Err, Option, Some, None}
-use Rattle.ot_plain.specs.Names.{Name}
-use Rattle.ot_plain.specs.Faults as faults
+use Rattle.ot_logic.specs.Names.{Name}
+use Rattle.ot_logic.specs.Faults as faults
 use Rattle.ot_scan.specs.Lines.{Lines}
 use Rattle.ot_machine.specs.declared.fault.Fault.{Fault}
 use Rattle.ot_machine.specs.declared.fault.Fault.TheVariants as code
@@ -38,9 +38,9 @@ Makes k view (Ok x) stated = stated ≡ Ok (view x)
 Makes k view (Err e) stated = Refuses k e stated
 
 -- a change of old into new is the stated one; a refusal changes nothing
-abbrev pub Moves : {X S : Type 0} → kernel.State → Result X Fault → Result S (faults.Fault Name) → S → S → Type 0
-Moves k (Ok x) stated old new = stated ≡ Ok new
-Moves k (Err e) stated old new = (new ≡ old) × Refuses k e stated
+abbrev pub StepsTo : {X S : Type 0} → kernel.State → Result X Fault → Result S (faults.Fault Name) → S → S → Type 0
+StepsTo k (Ok x) stated old new = stated ≡ Ok new
+StepsTo k (Err e) stated old new = (new ≡ old) × Refuses k e stated
 
 -- the first object of a list and the rest, where there is one
 pub record IsFirstOf (k : kernel.State) (cells : List cell.Cell) (l : items.List) (o : object.Object)
@@ -69,8 +69,8 @@ NamesSymbolIn k (article.At line fault) = IsSymbolIn k fault
 NamesSymbolIn k e = Unit {0}
 
 -- a row was taken: the state moved by it, the session grew, and the machine is still of it
-pub record Turns (result : Result (Unit {0}) Fault) (row : State → Result State (faults.Fault Name)) (s : Session)
+pub record TakesRow (result : Result (Unit {0}) Fault) (row : State → Result State (faults.Fault Name)) (s : Session)
     (m : Machine) (t : Session) (n : Machine) : Type 0 where
-  pub moves : Moves t.kernel result (row (state_of s m)) (state_of s m) (state_of t n)
+  pub moves : StepsTo t.kernel result (row (state_of s m)) (state_of s m) (state_of t n)
   pub grown : Grows s t
   pub of : IsOf t n

@@ -1,10 +1,10 @@
 -- What `axiom` takes, by the terms that it reads.
 use Rattle.std.specs.Prelude.{List, [], ◌∷◌, ◌++◌, Result, Ok, if◌then◌else◌}
-use Rattle.ot_plain.specs.Names.{Name}
-use Rattle.ot_plain.specs.Trees.{Tm}
-use Rattle.ot_plain.specs.Faults.{Fault}
-use Rattle.ot_plain.specs.Answers.{◌>>=◌}
-use Rattle.ot_plain.specs.declared.command.Cmd.TheVariants as words
+use Rattle.ot_logic.specs.Names.{Name}
+use Rattle.ot_logic.specs.Trees.{Tm}
+use Rattle.ot_logic.specs.Faults.{Fault}
+use Rattle.ot_logic.specs.Answers.{◌>>=◌}
+use Rattle.ot_logic.specs.declared.command.Cmd.TheVariants as words
 use Rattle.ot_kernel.specs.Axioms.{axiom_rule}
 use Rattle.ot_trace.specs.Origins.{Origin, Origins, Make, operand}
 use Rattle.ot_machine.specs.Objects.{term}

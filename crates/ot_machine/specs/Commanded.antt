@@ -1,9 +1,9 @@
 -- States that words lead to.
 use Rattle.std.specs.Prelude.{◌≡◌, List, [], ◌∷◌, IsTrue, Result, Ok}
 use Rattle.std.specs.List.{AllByRecursion}
-use Rattle.ot_plain.specs.Names.{Name}
-use Rattle.ot_plain.specs.Faults.{Fault}
-use Rattle.ot_plain.specs.Answers.{◌>>=◌}
+use Rattle.ot_logic.specs.Names.{Name}
+use Rattle.ot_logic.specs.Faults.{Fault}
+use Rattle.ot_logic.specs.Answers.{◌>>=◌}
 use Rattle.ot_scan.specs.Lines.{IsLineText}
 use Rattle.ot_scan.specs.Words.{WordValue, Numeral, Quoted, Order, is_in_range}
 use Rattle.ot_machine.specs.States.{State, Context}

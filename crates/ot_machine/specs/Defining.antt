@@ -1,15 +1,15 @@
 -- What a definition of a type operator gives.
 use Rattle.std.specs.Prelude.{◌≡◌, ◌<◌, ℕ, List, [], ◌∷◌, length, map, Result, Ok}
 use Rattle.std.specs.List.{All}
-use Rattle.ot_plain.specs.Names.{Name}
-use Rattle.ot_plain.specs.Naming.{names}
-use Rattle.ot_plain.specs.Trees.{Ty, TyOp, Tm, Sequent}
-use Rattle.ot_plain.specs.Hol.{tys_of_vars}
-use Rattle.ot_plain.specs.Faults.{Fault}
-use Rattle.ot_plain.specs.Answers.{◌>>=◌}
+use Rattle.ot_logic.specs.Names.{Name}
+use Rattle.ot_logic.specs.Naming.{names}
+use Rattle.ot_logic.specs.Trees.{Ty, TyOp, Tm, Sequent}
+use Rattle.ot_logic.specs.Hol.{tys_of_vars}
+use Rattle.ot_logic.specs.Faults.{Fault}
+use Rattle.ot_logic.specs.Answers.{◌>>=◌}
 use Rattle.ot_kernel.specs.State.{State, name_at, theorem_at}
 use Rattle.ot_kernel.specs.Defining.{type_definition}
-use Rattle.ot_plain.specs.declared.command.Cmd.TheVariants as words
+use Rattle.ot_logic.specs.declared.command.Cmd.TheVariants as words
 use Rattle.ot_trace.specs.Origins.{Origin, Named, Define, from_list, constant_origin, type_op_origin}
 use Rattle.ot_machine.specs.Objects.{theorem}
 use Rattle.ot_machine.specs.States.{Entry, Version, version_6, RunState}

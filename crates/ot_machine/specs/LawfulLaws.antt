@@ -1,13 +1,13 @@
 -- The laws of lawful states, over the names that may be used.
 use Rattle.std.specs.Prelude.{◌≡◌, ℕ, suc, true, List, Some, Ok, Err, slice_get}
 use Rattle.std.specs.List.{All}
-use Rattle.ot_plain.specs.Names.{Name}
-use Rattle.ot_plain.specs.Naming.{names}
-use Rattle.ot_plain.specs.Trees.{Tm, Sequent}
-use Rattle.ot_plain.specs.Hol.{theorems, same_sequent}
-use Rattle.ot_plain.specs.Faults.{Fault, Nesting}
+use Rattle.ot_logic.specs.Names.{Name}
+use Rattle.ot_logic.specs.Naming.{names}
+use Rattle.ot_logic.specs.Trees.{Tm, Sequent}
+use Rattle.ot_logic.specs.Hol.{theorems, same_sequent}
+use Rattle.ot_logic.specs.Faults.{Fault, Nesting}
 use Rattle.ot_kernel.specs.Axioms.{axiom_rule}
-use Rattle.ot_plain.specs.Answers.{◌>>=◌}
+use Rattle.ot_logic.specs.Answers.{◌>>=◌}
 use Rattle.ot_scan.specs.Lines.{Lines, Finished, Broken, Next, IsLineText}
 use Rattle.ot_scan.specs.Words.{WordValue, Quoted, word}
 use Rattle.ot_trace.specs.Origins.{Origin, Outcome}

@@ -5,10 +5,10 @@ use Rattle.std.specs.List.{All}
 use Rattle.std.specs.Map.{lookup}
 use Rattle.std.specs.Ordering.{int_cmp, int_eq}
 use Rattle.std.specs.FinMap.{FinMap, from_entries}
-use Rattle.ot_plain.specs.Table.{Extends}
-use Rattle.ot_plain.specs.Hol.{depth_limit}
-use Rattle.ot_plain.specs.Names.{Name}
-use Rattle.ot_plain.specs.Trees.{Tm, Sequent, Definition}
+use Rattle.ot_logic.specs.Table.{Extends}
+use Rattle.ot_logic.specs.Hol.{depth_limit}
+use Rattle.ot_logic.specs.Names.{Name}
+use Rattle.ot_logic.specs.Trees.{Tm, Sequent, Definition}
 use Rattle.ot_kernel.specs.State as kernel
 use Rattle.ot_kernel.specs.Alike.{AreFirstPlaces}
 use Rattle.ot_machine.specs.Objects.{Object, Objects, number, name, list, type_op, a_type, constant}

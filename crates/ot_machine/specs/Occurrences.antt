@@ -2,8 +2,8 @@
 use Rattle.std.specs.Prelude.{◌≡◌, ◌<◌, ◌&&◌, Bool, nat_eq, List, length, Some}
 use Rattle.std.specs.Bool.{Decides}
 use Rattle.std.specs.Map.{lookup}
-use Rattle.ot_plain.specs.Naming.{names}
-use Rattle.ot_plain.specs.Hol.{IsFreeIn}
+use Rattle.ot_logic.specs.Naming.{names}
+use Rattle.ot_logic.specs.NamedTerms.{IsFreeIn}
 use Rattle.ot_kernel.specs.State.{State, variable_at, named_at}
 use Rattle.ot_view.specs.Nodes.{IsKey}
 use Rattle.ot_machine.specs.declared.makers.occurrences.Occurrence.{Occurrence}

@@ -1,10 +1,10 @@
 -- What the steps of the two theorems that version 5 gives a type operator are.
 use Rattle.std.specs.Prelude.{◌≡◌, ◌<◌, ℕ, List, [], ◌∷◌, length, codes}
-use Rattle.ot_plain.specs.Names.{Name}
-use Rattle.ot_plain.specs.Naming.{names}
-use Rattle.ot_plain.specs.Trees.{Ty, Tm, App, Sequent}
-use Rattle.ot_plain.specs.Hol.{type_of}
-use Rattle.ot_plain.specs.declared.command.Cmd.TheVariants as words
+use Rattle.ot_logic.specs.Names.{Name}
+use Rattle.ot_logic.specs.Naming.{names}
+use Rattle.ot_logic.specs.Trees.{Ty, Tm, App, Sequent}
+use Rattle.ot_logic.specs.Hol.{type_of}
+use Rattle.ot_logic.specs.declared.command.Cmd.TheVariants as words
 use Rattle.ot_trace.specs.Origins.{Origin, Named, Make, Outcome, NoOrigins, make_one}
 use Rattle.ot_trace.specs.Origins.{make_two, type_op_origin, constant_origin}
 use Rattle.ot_machine.specs.Objects.{theorem}

@@ -1,12 +1,12 @@
 -- What stands at a place of the stack, of which kind.
 use Rattle.std.specs.Prelude.{◌-◌, ℕ, suc, ℤ, List, [], ◌∷◌, ◌++◌, take, drop, length}
 use Rattle.std.specs.Prelude.{map, Result, Ok, Err, slice_get, nat_lt, if◌then◌else◌}
-use Rattle.ot_plain.specs.Names.{Name}
-use Rattle.ot_plain.specs.Trees.{Ty, Tys, NoTys, MoreTys, Variable, Tm, Sequent}
-use Rattle.ot_plain.specs.Faults.{Fault, StackEmpty, WrongKind}
-use Rattle.ot_plain.specs.Answers.{◌>>=◌, some_or}
-use Rattle.ot_plain.specs.declared.kind.Kind.{Kind}
-use Rattle.ot_plain.specs.declared.kind.Kind.TheVariants as kinds
+use Rattle.ot_logic.specs.Names.{Name}
+use Rattle.ot_logic.specs.Trees.{Ty, Tys, NoTys, MoreTys, Variable, Tm, Sequent}
+use Rattle.ot_logic.specs.Faults.{Fault, StackEmpty, WrongKind}
+use Rattle.ot_logic.specs.Answers.{◌>>=◌, some_or}
+use Rattle.ot_logic.specs.declared.kind.Kind.{Kind}
+use Rattle.ot_logic.specs.declared.kind.Kind.TheVariants as kinds
 use Rattle.ot_machine.specs.Objects.{Object, Objects, number, name, list, type_op, a_type, constant}
 use Rattle.ot_machine.specs.Objects.{variable, term, theorem, no_objects, more_objects, kind_of}
 use Rattle.ot_trace.specs.Origins.{Origin, Origins, from_list}

@@ -3,14 +3,14 @@ use Rattle.std.specs.Prelude.{pos, ℕ, suc, List, [], ◌∷◌, ◌++◌, map,
 use Rattle.std.specs.Prelude.{Some, None, Bool, false, ◌||◌, Result, Ok, Err, cond}
 use Rattle.std.specs.Ordering.{int_eq}
 use Rattle.std.specs.FinMap as dictionaries
-use Rattle.ot_plain.specs.Names.{Name}
-use Rattle.ot_plain.specs.Naming.{names}
-use Rattle.ot_plain.specs.Trees.{Sequent, Definition}
-use Rattle.ot_plain.specs.Hol.{same_sequent, theorems}
-use Rattle.ot_plain.specs.Faults.{Fault, VersionUnsupported, NoEntry, EmptyList, ExportMismatch}
-use Rattle.ot_plain.specs.Answers.{◌>>=◌, unless, some_or}
-use Rattle.ot_plain.specs.declared.command.Cmd.{Cmd}
-use Rattle.ot_plain.specs.declared.command.Cmd.TheVariants as words
+use Rattle.ot_logic.specs.Names.{Name}
+use Rattle.ot_logic.specs.Naming.{names}
+use Rattle.ot_logic.specs.Trees.{Sequent, Definition}
+use Rattle.ot_logic.specs.Hol.{same_sequent, theorems}
+use Rattle.ot_logic.specs.Faults.{Fault, VersionUnsupported, NoEntry, EmptyList, ExportMismatch}
+use Rattle.ot_logic.specs.Answers.{◌>>=◌, unless, some_or}
+use Rattle.ot_logic.specs.declared.command.Cmd.{Cmd}
+use Rattle.ot_logic.specs.declared.command.Cmd.TheVariants as words
 use Rattle.ot_kernel.specs.Defining.{Defining, const_definition, list_definition, type_definition}
 use Rattle.ot_interp.specs.Interpretation.{renamed}
 use Rattle.ot_machine.specs.Objects.{Object, Objects, list, type_op, constant, theorem, no_objects, more_objects}

@@ -2,8 +2,8 @@
 use Rattle.std.specs.Prelude.{ℕ, List, []}
 use Rattle.std.specs.Ordering.{int_cmp}
 use Rattle.std.specs.FinMap.{FinMap, empty}
-use Rattle.ot_plain.specs.Names.{Name}
-use Rattle.ot_plain.specs.Trees.{Sequent, Definition}
+use Rattle.ot_logic.specs.Names.{Name}
+use Rattle.ot_logic.specs.Trees.{Sequent, Definition}
 use Rattle.ot_trace.specs.Origins.{Origin, Roots}
 use Rattle.ot_interp.specs.Interpretation.{Interpretation, identity}
 use Rattle.ot_machine.specs.Objects.{Object}

@@ -1,7 +1,7 @@
 -- What calls leave of a session.
 use Rattle.std.specs.Prelude.{◌≡◌, ◌<◌, ℕ, length, Result, IfOk, OnOk, OnErr}
-use Rattle.ot_plain.specs.Names.{Name}
-use Rattle.ot_plain.specs.Table.{Extends}
+use Rattle.ot_logic.specs.Names.{Name}
+use Rattle.ot_logic.specs.Table.{Extends}
 use Rattle.ot_trace.specs.Origins.{Origin}
 use Rattle.ot_machine.specs.declared.object.Object.{Object}
 use Rattle.ot_machine.specs.declared.machine.Machine.{Machine}

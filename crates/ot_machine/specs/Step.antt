@@ -1,11 +1,11 @@
 -- One command of the stated machine.
 use Rattle.std.specs.Prelude.{List, min, ◌^◌, ◌+◌, ◌-◌, ◌==◌, ℕ, ℤ, Bool, true, false, Result, Ok, Err, if◌then◌else◌}
-use Rattle.ot_plain.specs.Names.{Name}
-use Rattle.ot_plain.specs.Reading.{name_read}
-use Rattle.ot_plain.specs.Faults.{Fault, BadName, VersionLate}
-use Rattle.ot_plain.specs.Answers.{◌>>=◌, some_or}
-use Rattle.ot_plain.specs.declared.command.Cmd.{Cmd}
-use Rattle.ot_plain.specs.declared.command.Cmd.TheVariants as words
+use Rattle.ot_logic.specs.Names.{Name}
+use Rattle.ot_logic.specs.Reading.{name_read}
+use Rattle.ot_logic.specs.Faults.{Fault, BadName, VersionLate}
+use Rattle.ot_logic.specs.Answers.{◌>>=◌, some_or}
+use Rattle.ot_logic.specs.declared.command.Cmd.{Cmd}
+use Rattle.ot_logic.specs.declared.command.Cmd.TheVariants as words
 use Rattle.ot_scan.specs.Words.{WordValue, Numeral, Quoted, Order}
 use Rattle.ot_machine.specs.Objects.{number, name}
 use Rattle.ot_trace.specs.Origins.{Number, Named}

@@ -1,13 +1,13 @@
 -- What `defineTypeOp` pushes in an article of version 5.
 use Rattle.std.specs.Prelude.{max, ℕ, suc, List, [], ◌∷◌, codes, Option, Some, None, Result, Ok, Err, slice_get}
 use Rattle.std.specs.Fmt.{decimal}
-use Rattle.ot_plain.specs.Names.{Name}
-use Rattle.ot_plain.specs.Naming.{names}
-use Rattle.ot_plain.specs.Trees.{Ty, Tys, TyVar, TyOp, NoTys, MoreTys, Tm, Free, Con, Bound, App, Abs}
-use Rattle.ot_plain.specs.Hol.{fun_ty, bool_ty, type_of, tys_of_vars}
-use Rattle.ot_plain.specs.Faults.{Fault, NotApplication}
-use Rattle.ot_plain.specs.Answers.{◌>>=◌}
-use Rattle.ot_plain.specs.declared.command.Cmd.TheVariants as words
+use Rattle.ot_logic.specs.Names.{Name}
+use Rattle.ot_logic.specs.Naming.{names}
+use Rattle.ot_logic.specs.Trees.{Ty, Tys, TyVar, TyOp, NoTys, MoreTys, Tm, Free, Con, Bound, App, Abs}
+use Rattle.ot_logic.specs.Hol.{fun_ty, bool_ty, type_of, tys_of_vars}
+use Rattle.ot_logic.specs.Faults.{Fault, NotApplication}
+use Rattle.ot_logic.specs.Answers.{◌>>=◌}
+use Rattle.ot_logic.specs.declared.command.Cmd.TheVariants as words
 use Rattle.ot_kernel.specs.Defining.{type_definition}
 use Rattle.ot_interp.specs.Interpretation.{renamed}
 use Rattle.ot_trace.specs.Origins.{Origin, Named, Make, NoOrigins, make_one}

@@ -1,5 +1,5 @@
 -- Names that a line can say.
-use Rattle.ot_plain.specs.Names.{Name, IsName, spelled}
+use Rattle.ot_logic.specs.Names.{Name, IsName, spelled}
 use Rattle.ot_scan.specs.Lines.{IsLineText}
 
 -- its spelling has no newline, and is within the limit of a line

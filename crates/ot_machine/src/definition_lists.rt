@@ -11,7 +11,7 @@ use crate::machine::Machine;
 use crate::object::{List, Object};
 use crate::parts::ListForm;
 use crate::session::Session;
-use ot_plain::{Memory, NameId};
+use ot_logic::{Memory, NameId};
 use ot_term::VarKey;
 use std::alloc::Global;
 

@@ -1,8 +1,8 @@
 //! What a list of one kind has as its elements.
 ghost use Rattle.std.specs.Prelude.{◌<◌, ℕ, List, Result, IfOk, length};
-ghost use Rattle.ot_plain.specs.Names.{Name};
-ghost use Rattle.ot_plain.specs.Trees.{Ty, Tm};
-ghost use Rattle.ot_plain.specs.Faults.{Fault as Refusal};
+ghost use Rattle.ot_logic.specs.Names.{Name};
+ghost use Rattle.ot_logic.specs.Trees.{Ty, Tm};
+ghost use Rattle.ot_logic.specs.Faults.{Fault as Refusal};
 ghost use Rattle.ot_kernel.specs.State.{State, name_at, type_at, term_at};
 ghost use Rattle.ot_machine.specs.Objects.{Object as Stated, Objects};
 ghost use Rattle.ot_machine.specs.Meaning.{object_of, IsIn};
@@ -11,7 +11,7 @@ ghost use Rattle.ot_machine.specs.Answers.{Makes};
 
 use crate::fault::Fault;
 use crate::object::Object;
-use ot_plain::{Kind, NameId};
+use ot_logic::{Kind, NameId};
 use ot_term::TermId;
 use ot_type::TypeId;
 

@@ -1,8 +1,8 @@
 //! The exports of a machine of this session.
 ghost use Rattle.std.specs.Prelude.{◌≡◌, ◌<◌, ◌≤◌, length, map, OnOk, OnErr, vec_len};
 ghost use Rattle.std.specs.List.{All};
-ghost use Rattle.ot_plain.specs.Hol.{same_sequent};
-ghost use Rattle.ot_plain.specs.Naming.{names};
+ghost use Rattle.ot_logic.specs.Hol.{same_sequent};
+ghost use Rattle.ot_logic.specs.Naming.{names};
 ghost use Rattle.ot_kernel.specs.State.{theorem_at};
 ghost use Rattle.ot_kernel.specs.Alike.{AreFirstPlaces};
 ghost use Rattle.ot_machine.specs.Meaning.{export_of, concls_of, article_of, IsOf};
@@ -11,7 +11,7 @@ ghost use Rattle.ot_machine.specs.Rows.{exported, is_exported};
 use crate::machine::{Export, Machine};
 use crate::session::Session;
 use ot_kernel::{Places, ThmId};
-use ot_plain::Memory;
+use ot_logic::Memory;
 use ot_trace::StepId;
 
 impl Session {

@@ -5,7 +5,7 @@ ghost use Rattle.ot_machine.specs.Conversions.{rule_fault, word_fault, article_f
 
 use ot_define::DefineFault;
 use ot_kernel::RuleFault;
-use ot_plain::{Kind, Memory};
+use ot_logic::{Kind, Memory};
 use ot_scan::{ScanFault, WordFault};
 use ot_term::{Symbol, TermFault};
 use ot_type::TableFault;

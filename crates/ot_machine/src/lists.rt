@@ -2,7 +2,7 @@
 ghost use Rattle.std.specs.Prelude.{◌≡◌, ◌<◌, ◌≤◌, length, map, IfOk, OnErr};
 ghost use Rattle.std.specs.List.{All};
 ghost use Rattle.ot_kernel.specs.State.{name_at, type_at, term_at};
-ghost use Rattle.ot_plain.specs.Hol.{depth_limit};
+ghost use Rattle.ot_logic.specs.Hol.{depth_limit};
 ghost use Rattle.ot_machine.specs.Objects.{list as a_list, nesting};
 ghost use Rattle.ot_machine.specs.Meaning.{object_of, origin_of, list_at, lists_of, article_of, IsOf, IsIn, IsListIn};
 ghost use Rattle.ot_machine.specs.Places.{as_each, types_on, terms_on, names_on};
@@ -15,7 +15,7 @@ use crate::fault::Fault;
 use crate::machine::Machine;
 use crate::object::{Cell, List, Object};
 use crate::session::Session;
-use ot_plain::{DEPTH_LIMIT, Memory, NameId};
+use ot_logic::{DEPTH_LIMIT, Memory, NameId};
 use ot_term::TermId;
 use ot_trace::StepId;
 use ot_type::TypeId;

@@ -1,5 +1,5 @@
 ghost use Rattle.std.specs.Prelude.{◌≡◌, ◌≢◌, ◌<◌, ◌≤◌, ◌^◌, ℕ, [], length, Err, IfSome, IfErr, OnOk};
-ghost use Rattle.ot_io.specs.Causes.{Rose};
+ghost use Rattle.ot_io.specs.Causes.{CountRose};
 ghost use Rattle.ot_io.specs.Keeping.{KeepsSource};
 ghost use Rattle.ot_kernel.specs.State.{State};
 ghost use Rattle.ot_scan.specs.Lines.{lines_of};
@@ -12,7 +12,7 @@ ghost use Rattle.ot_machine.specs.Contexts.{context_of, IsContextOf};
 ghost use Rattle.ot_machine.specs.Step.{step, row, word_row, version_rule};
 ghost use Rattle.ot_machine.specs.Run.{line_step};
 ghost use Rattle.ot_machine.specs.Commanded.{LeadsTo};
-ghost use Rattle.ot_machine.specs.Answers.{Makes, Moves, Turns, Runs, NamesSymbolIn};
+ghost use Rattle.ot_machine.specs.Answers.{Makes, StepsTo, TakesRow, Runs, NamesSymbolIn};
 
 use crate::context::Context;
 use crate::fault::{ArticleFault, Fault, refusal};
@@ -22,7 +22,7 @@ use crate::session::Session;
 use indexmap::IndexMap;
 use ot_io::Source;
 use ot_kernel::{Places, ThmId};
-use ot_plain::Cmd;
+use ot_logic::Cmd;
 use ot_scan::{Lines, Word, command as read_word};
 use ot_trace::StepId;
 use std::alloc::Global;
@@ -90,19 +90,20 @@ impl Machine {
     pub fn step(
         &mut self,
         session: &mut Session,
-        ctx: &Context<'_>,
+        context: &Context<'_>,
         word: Word<'_>,
     ) -> Result<(), Fault>
         requires of { IsOf session.old self.old }
-        requires context { IsContextOf session.old ctx.now }
-        ensures moves { Moves session.new.kernel result (step (context_of session.old ctx.now) (state_of session.old self.old)
+        requires context { IsContextOf session.old context.now }
+        ensures moves { StepsTo session.new.kernel result
+            (step (context_of session.old context.now) (state_of session.old self.old)
             (word_value word.entry)) (state_of session.old self.old) (state_of session.new self.new) }
         ensures of { IsOf session.new self.new }
         ensures grown { Grows session.old session.new }
     {
         let command = session.command(self, word)?;
         let version = version_behind(self.version, self.count, &command)?;
-        self.row(session, ctx, version, command)?;
+        self.row(session, context, version, command)?;
         self.version = version;
         self.count = self.count.saturating_add(1);
         Ok(())
@@ -116,24 +117,24 @@ impl Machine {
     pub fn run_article<S: Source>(
         &mut self,
         session: &mut Session,
-        ctx: &Context<'_>,
+        context: &Context<'_>,
         source: &mut S,
         max_bytes: u64,
     ) -> Result<(), ArticleFault>
         requires of { IsOf session.old self.old }
-        requires context { IsContextOf session.old ctx.now }
+        requires context { IsContextOf session.old context.now }
         requires max_bytes { max_bytes ≤ 2 ^ 32 }
         ensures runs { IfSome (S.left source.old)
-            (λ bytes. Runs session.new.kernel result (context_of session.old ctx.now) (lines_of max_bytes bytes)
+            (λ bytes. Runs session.new.kernel result (context_of session.old context.now) (lines_of max_bytes bytes)
             (state_of session.old self.old) (state_of session.new self.new)) }
-        ensures led { LeadsTo (context_of session.old ctx.now) (state_of session.old self.old)
+        ensures led { LeadsTo (context_of session.old context.now) (state_of session.old self.old)
             (state_of session.new self.new) }
         ensures of { IsOf session.new self.new }
         ensures grown { Grows session.old session.new }
         ensures symbols { IfErr result (NamesSymbolIn session.new.kernel) }
         ensures apart { (line : ℕ) → result ≢ Err (ArticleFault.At line Fault.Memory) }
         ensures spent { OnOk result (IfSome (S.left source.old) (λ _. IfSome (S.left source.new) (λ bytes. bytes ≡ []))) }
-        ensures cause { result ≡ Err ArticleFault.ReadFault → Rose (S.faults source.old) (S.faults source.new) }
+        ensures cause { result ≡ Err ArticleFault.ReadFault → CountRose (S.faults source.old) (S.faults source.new) }
         ensures kept { KeepsSource S.folder S.faults S.misses S.at source.old source.new }
     {
         let mut lines = Lines::new(max_bytes);
@@ -141,7 +142,7 @@ impl Machine {
             match lines.next(source) {
                 Ok(None) => return Ok(()),
                 Ok(Some(line)) => {
-                    if let Err(fault) = self.line(session, ctx, line.text) {
+                    if let Err(fault) = self.line(session, context, line.text) {
                         return Err(refusal(line.number, fault));
                     }
                 }
@@ -152,18 +153,23 @@ impl Machine {
 
     /// The text of a line that holds a command.
     #[inline(always)]
-    fn line(&mut self, session: &mut Session, ctx: &Context<'_>, text: &[u8]) -> Result<(), Fault>
+    fn line(
+        &mut self,
+        session: &mut Session,
+        context: &Context<'_>,
+        text: &[u8],
+    ) -> Result<(), Fault>
         requires of { IsOf session.old self.old }
-        requires context { IsContextOf session.old ctx.now }
+        requires context { IsContextOf session.old context.now }
         requires some { 0 < length text.now }
-        ensures moves { Moves session.new.kernel result
-            (line_step (context_of session.old ctx.now) (state_of session.old self.old) text.now)
+        ensures moves { StepsTo session.new.kernel result
+            (line_step (context_of session.old context.now) (state_of session.old self.old) text.now)
             (state_of session.old self.old) (state_of session.new self.new) }
         ensures of { IsOf session.new self.new }
         ensures grown { Grows session.old session.new }
     {
         let word = read_word(text)?;
-        self.step(session, ctx, word)
+        self.step(session, context, word)
     }
 
     /// The row of a command, in an article of a version.
@@ -171,15 +177,15 @@ impl Machine {
     fn row(
         &mut self,
         session: &mut Session,
-        ctx: &Context<'_>,
+        context: &Context<'_>,
         version: Version,
         command: Command,
     ) -> Result<(), Fault>
         requires of { IsOf session.old self.old }
-        requires context { IsContextOf session.old ctx.now }
+        requires context { IsContextOf session.old context.now }
         requires inside { IsCommandIn session.old.kernel command }
-        ensures { Turns result
-            (row (version_of version) (context_of session.old ctx.now) (command_at session.old.kernel command))
+        ensures { TakesRow result
+            (row (version_of version) (context_of session.old context.now) (command_at session.old.kernel command))
             session.old self.old session.new self.new }
     {
         match command {
@@ -192,7 +198,7 @@ impl Machine {
             Command::Order(order) => match order {
                 Cmd::Ref => rows::refer(session, self),
                 Cmd::Cons => rows::cons(session, self),
-                _ => self.order(session, ctx, version, order),
+                _ => self.order(session, context, version, order),
             },
         }
     }
@@ -202,14 +208,14 @@ impl Machine {
     fn order(
         &mut self,
         session: &mut Session,
-        ctx: &Context<'_>,
+        context: &Context<'_>,
         version: Version,
         order: Cmd,
     ) -> Result<(), Fault>
         requires of { IsOf session.old self.old }
-        requires context { IsContextOf session.old ctx.now }
-        ensures { Turns result (word_row (version_of version) (context_of session.old ctx.now) order) session.old
-            self.old session.new self.new }
+        requires context { IsContextOf session.old context.now }
+        ensures { TakesRow result (word_row (version_of version) (context_of session.old context.now) order)
+            session.old self.old session.new self.new }
     {
         let alloc = self.alloc;
         match order {
@@ -221,12 +227,12 @@ impl Machine {
             Cmd::Ref => rows::refer(session, self),
             Cmd::Remove => rows::remove(session, self),
             Cmd::Pop | Cmd::Pragma => rows::pop(session, self),
-            Cmd::TypeOp => rows::type_op(session, self, ctx),
+            Cmd::TypeOp => rows::type_op(session, self, context),
             Cmd::OpType => rows::op_type(alloc, session, self),
             Cmd::VarType => rows::var_type(session, self),
             Cmd::Var => rows::var(session, self),
             Cmd::VarTerm => rows::var_term(session, self),
-            Cmd::Const => rows::constant(session, self, ctx),
+            Cmd::Const => rows::constant(session, self, context),
             Cmd::ConstTerm => rows::const_term(session, self),
             Cmd::AppTerm => rows::app_term(session, self),
             Cmd::AbsTerm => rows::abs_term(session, self),
@@ -241,11 +247,11 @@ impl Machine {
             Cmd::Sym => rows::sym(session, self),
             Cmd::Trans => rows::trans(session, self),
             Cmd::ProveHyp => rows::prove_hyp(session, self),
-            Cmd::Axiom => rows::axiom(alloc, session, self, ctx),
+            Cmd::Axiom => rows::axiom(alloc, session, self, context),
             Cmd::Thm => rows::thm(alloc, session, self),
-            Cmd::DefineConst => rows::define_const(session, self, ctx),
-            Cmd::DefineConstList => rows::define_const_list(alloc, session, self, ctx),
-            Cmd::DefineTypeOp => rows::define_type(alloc, session, self, ctx, version),
+            Cmd::DefineConst => rows::define_const(session, self, context),
+            Cmd::DefineConstList => rows::define_const_list(alloc, session, self, context),
+            Cmd::DefineTypeOp => rows::define_type(alloc, session, self, context, version),
         }
     }
 }

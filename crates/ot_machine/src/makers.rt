@@ -1,8 +1,8 @@
 //! What the kernel makes for a machine of this session. The machine stands for what it stood for.
 ghost use Rattle.std.specs.Prelude.{◌<◌, length, IfOk};
-ghost use Rattle.ot_plain.specs.Faults.{BadName};
-ghost use Rattle.ot_plain.specs.Answers.{some_or};
-ghost use Rattle.ot_plain.specs.Reading.{name_read};
+ghost use Rattle.ot_logic.specs.Faults.{BadName};
+ghost use Rattle.ot_logic.specs.Answers.{some_or};
+ghost use Rattle.ot_logic.specs.Reading.{name_read};
 ghost use Rattle.ot_kernel.specs.State.{name_at};
 ghost use Rattle.ot_scan.specs.Words.{word_value};
 ghost use Rattle.ot_machine.specs.Step.{command_of};
@@ -22,7 +22,7 @@ use crate::fault::Fault;
 use crate::machine::Machine;
 use crate::object::Command;
 use crate::session::Session;
-use ot_plain::{Name, NameFault, NameId};
+use ot_logic::{Name, NameFault, NameId};
 use ot_scan::Word;
 use std::alloc::Global;
 

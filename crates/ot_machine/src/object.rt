@@ -1,7 +1,7 @@
 ghost use Rattle.std.specs.Prelude.{◌≡◌};
 
 use ot_kernel::ThmId;
-use ot_plain::{Cmd, Kind, NameId};
+use ot_logic::{Cmd, Kind, NameId};
 use ot_term::{TermId, VarKey};
 use ot_trace::StepId;
 use ot_type::TypeId;

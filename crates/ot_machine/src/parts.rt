@@ -1,6 +1,6 @@
 //! The parts of lists of a machine of this session that a command reads as a whole.
 ghost use Rattle.std.specs.Prelude.{◌≡◌, ◌<◌, ℕ, Some, length, IfOk};
-ghost use Rattle.ot_plain.specs.Names.{Name};
+ghost use Rattle.ot_logic.specs.Names.{Name};
 ghost use Rattle.ot_kernel.specs.State.{State, name_at, variable_at};
 ghost use Rattle.ot_machine.specs.Faults.{fault_of};
 ghost use Rattle.ot_machine.specs.Parts.{or_bad, two_of, bad_list};
@@ -12,7 +12,7 @@ use crate::fault::Fault;
 use crate::machine::Machine;
 use crate::object::{List, Object};
 use crate::session::Session;
-use ot_plain::NameId;
+use ot_logic::NameId;
 use ot_term::VarKey;
 
 /// What a list that is read as a whole has to be.

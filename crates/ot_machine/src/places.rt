@@ -14,7 +14,7 @@ use crate::machine::Machine;
 use crate::object::{Entry, List, Object};
 use crate::session::Session;
 use ot_kernel::ThmId;
-use ot_plain::{Kind, NameId};
+use ot_logic::{Kind, NameId};
 use ot_term::{TermId, VarKey};
 use ot_trace::StepId;
 use ot_type::TypeId;

@@ -4,7 +4,7 @@ ghost use Rattle.ot_machine.specs.States.{fresh_run};
 ghost use Rattle.ot_machine.specs.Meaning.{run_of, IsRun, Grows};
 
 use ot_kernel::Kernel;
-use ot_plain::{Memory, Name, NameId};
+use ot_logic::{Memory, Name, NameId};
 use ot_trace::{StepId, Trace};
 use std::alloc::Global;
 

@@ -1,10 +1,10 @@
 //! How what stands on the stack was made: its steps in the trace of this session, and what a word makes of them.
 ghost use Rattle.std.specs.Prelude.{◌≡◌, ◌<◌, ◌≤◌, Result, length, map, IfOk, IfErr, vec_len};
 ghost use Rattle.std.specs.List.{All};
-ghost use Rattle.ot_plain.specs.Names.{Name};
-ghost use Rattle.ot_plain.specs.Trees.{Sequent};
-ghost use Rattle.ot_plain.specs.Faults.{Fault as StatedFault};
-ghost use Rattle.ot_plain.specs.declared.command.Cmd.TheVariants as words;
+ghost use Rattle.ot_logic.specs.Names.{Name};
+ghost use Rattle.ot_logic.specs.Trees.{Sequent};
+ghost use Rattle.ot_logic.specs.Faults.{Fault as StatedFault};
+ghost use Rattle.ot_logic.specs.declared.command.Cmd.TheVariants as words;
 ghost use Rattle.ot_kernel.specs.State.{name_at};
 ghost use Rattle.ot_trace.specs.Origins.{Number, Named, Make, Define, Outcome, MoreOrigins};
 ghost use Rattle.ot_trace.specs.Origins.{NoOrigins, from_list, make_one, operand, symbols};
@@ -17,14 +17,14 @@ ghost use Rattle.ot_machine.specs.Rows.{origin_at};
 ghost use Rattle.ot_machine.specs.RenamedLists.{list_onto};
 ghost use Rattle.ot_machine.specs.Step.{on_stack};
 ghost use Rattle.ot_machine.specs.Concluding.{Gives, concluding};
-ghost use Rattle.ot_machine.specs.Answers.{Turns};
+ghost use Rattle.ot_machine.specs.Answers.{TakesRow};
 
 use crate::fault::Fault;
 use crate::machine::Machine;
 use crate::object::Object;
 use crate::session::Session;
 use ot_kernel::{RuleFault, ThmId};
-use ot_plain::{Cmd, Memory, NameId};
+use ot_logic::{Cmd, Memory, NameId};
 use ot_trace::{Step, StepId};
 
 impl Session {
@@ -257,7 +257,7 @@ impl Session {
         requires inside { IfOk answer (λ th. th < length self.old.kernel.theorems) }
         requires there { 1 ≤ vec_len machine.old.stack }
         ensures { (stated : Result (Sequent Name) (StatedFault Name)) → Gives self.old.kernel answer stated
-            → Turns result (on_stack (concluding 1 word stated)) self.old machine.old self.new machine.new }
+            → TakesRow result (on_stack (concluding 1 word stated)) self.old machine.old self.new machine.new }
     {
         match answer {
             Ok(theorem) => Ok(self.make_one(machine, word, Object::Theorem(theorem))?),
@@ -277,7 +277,7 @@ impl Session {
         requires inside { IfOk answer (λ th. th < length self.old.kernel.theorems) }
         requires there { 2 ≤ vec_len machine.old.stack }
         ensures { (stated : Result (Sequent Name) (StatedFault Name)) → Gives self.old.kernel answer stated
-            → Turns result (on_stack (concluding 2 word stated)) self.old machine.old self.new machine.new }
+            → TakesRow result (on_stack (concluding 2 word stated)) self.old machine.old self.new machine.new }
     {
         match answer {
             Ok(theorem) => Ok(self.make_two(machine, word, Object::Theorem(theorem))?),

@@ -2,8 +2,8 @@
 ghost use Rattle.std.specs.Prelude.{◌≡◌, ◌<◌, ◌≤◌, ◌↔◌, length, map, IfOk, IsTrue, OnOk, OnErr, vec_len};
 ghost use Rattle.std.specs.List.{All};
 ghost use Rattle.std.specs.FinMap as dictionaries;
-ghost use Rattle.ot_plain.specs.Faults.{NoEntry};
-ghost use Rattle.ot_plain.specs.Answers.{some_or};
+ghost use Rattle.ot_logic.specs.Faults.{NoEntry};
+ghost use Rattle.ot_logic.specs.Answers.{some_or};
 ghost use Rattle.ot_kernel.specs.State.{name_at};
 ghost use Rattle.ot_machine.specs.Meaning.{entry_of, lists_of, article_of, IsOf, IsIn, IsEntryIn, HasStep};
 ghost use Rattle.ot_machine.specs.Places.{pushed, replaced, exchanged, dropped};
@@ -13,7 +13,7 @@ use crate::fault::Fault;
 use crate::machine::Machine;
 use crate::object::{Entry, Object};
 use crate::session::Session;
-use ot_plain::Memory;
+use ot_logic::Memory;
 use ot_trace::StepId;
 
 impl Session {

@@ -2,7 +2,7 @@
 ghost use Rattle.std.specs.Prelude.{◌≡◌, ◌<◌, [], length, IfOk};
 ghost use Rattle.ot_kernel.specs.State.{name_at, type_at, variable_at, term_at};
 ghost use Rattle.ot_kernel.specs.Pairs.{type_pairs, term_pairs, AreTypePairs, IsSubstIn};
-ghost use Rattle.ot_plain.specs.Faults.{BadSubst};
+ghost use Rattle.ot_logic.specs.Faults.{BadSubst};
 ghost use Rattle.ot_machine.specs.Parts.{or_bad};
 ghost use Rattle.ot_machine.specs.Places.{as_type, as_term};
 ghost use Rattle.ot_machine.specs.Substitutions.{type_pair, term_pair, types_onto, terms_onto, maps_of};
@@ -14,7 +14,7 @@ use crate::machine::Machine;
 use crate::object::{List, Object};
 use crate::parts::ListForm;
 use crate::session::Session;
-use ot_plain::NameId;
+use ot_logic::NameId;
 use ot_subst::Subst;
 use ot_term::{TermId, VarKey};
 use ot_type::{TypeId, TypeSubst};

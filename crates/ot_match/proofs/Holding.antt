@@ -9,18 +9,19 @@ use Rattle.std.proofs.Common.{Some, None, inl, inr, refl, sym, ap, subst, ◌∙
 use Rattle.std.proofs.lemmas.Bool.{cases_Bool}
 use Rattle.std.proofs.lemmas.List.Elements.{All-head, All-tail}
 use Rattle.std.proofs.lemmas.Option.{same_Some}
-use Rattle.ot_plain.specs.Lists.{IsMember}
-use Rattle.ot_plain.specs.Names.{Name}
-use Rattle.ot_plain.specs.Naming.{names}
-use Rattle.ot_plain.specs.Trees.{Ty, Tys, NoTys, MoreTys, Variable, Tm, Free, Con}
-use Rattle.ot_plain.specs.Trees.{Bound, App, Abs, Named, NVar, NConst, NApp, NAbs}
-use Rattle.ot_plain.specs.Hol.{IsFreeIn, place, at_place, nameless, nameless_in, type_in, named_type}
+use Rattle.ot_logic.specs.Lists.{IsMember}
+use Rattle.ot_logic.specs.Names.{Name}
+use Rattle.ot_logic.specs.Naming.{names}
+use Rattle.ot_logic.specs.Trees.{Ty, Tys, NoTys, MoreTys, Variable, Tm, Free, Con}
+use Rattle.ot_logic.specs.Trees.{Bound, App, Abs, Named, NVar, NConst, NApp, NAbs}
+use Rattle.ot_logic.specs.Hol.{type_in}
+use Rattle.ot_logic.specs.NamedTerms.{IsFreeIn, place, at_place, nameless, nameless_in, named_type}
 use Rattle.ot_laws.proofs.Typing.{type-nameless}
 use Rattle.ot_laws.proofs.Tests.{tells_names}
 use Rattle.ot_match.specs.Walk.{◌>>=◌, put, put_term, walk_type, walk_types, walk_var, walk_term, Maps}
 use Rattle.ot_view.specs.Nodes.{IsNoApplication, IsNoAbstraction}
 use Rattle.ot_kernel.specs.State.{State, type_at, types_at}
-use Rattle.ot_plain.specs.PlainTrees.{tys_of}
+use Rattle.ot_logic.specs.PlainTrees.{tys_of}
 use Rattle.ot_match.specs.Steps.{answered, any_bound, Meets}
 use Rattle.ot_laws.proofs.Named.{nameless_in-nil}
 use Rattle.ot_match.specs.Matching.{matched}

@@ -2,11 +2,12 @@
 use Rattle.std.specs.Option.{option_map}
 use Rattle.std.proofs.Common.{◌≡◌, ℕ, suc, ◌+◌, List, [], ◌∷◌, ◌++◌, length}
 use Rattle.std.proofs.Common.{Option, Some, None, refl, sym, ap, subst, ◌∙◌, inl, inr, arith}
-use Rattle.ot_plain.specs.Trees.{Alphabet, Ty, Variable}
-use Rattle.ot_plain.specs.Trees.{App, Abs, Named, NVar, NConst, NApp, NAbs}
+use Rattle.ot_logic.specs.Trees.{Alphabet, Ty, Variable}
+use Rattle.ot_logic.specs.Trees.{App, Abs, Named, NVar, NConst, NApp, NAbs}
 use Rattle.ot_laws.proofs.Named.{nameless_in-nil}
 use Rattle.ot_laws.proofs.Typing.{within-typed}
-use Rattle.ot_plain.specs.Hol.{nameless, place, at_place, nameless_in, IsFreeIn, IsWithin, type_in}
+use Rattle.ot_logic.specs.Hol.{IsWithin, type_in}
+use Rattle.ot_logic.specs.NamedTerms.{nameless, place, at_place, nameless_in, IsFreeIn}
 use Rattle.ot_laws.proofs.Tests.{Tells, var_cases, same_var-no}
 
 module _ {N : Type 0} (alphabet : Alphabet N) (tells : Tells alphabet) where

@@ -5,11 +5,11 @@ use Rattle.std.proofs.Common.{◌≡◌, true, List, [], ◌∷◌, map}
 use Rattle.std.proofs.Common.{Option, Some, None, refl, sym, ap, subst, ◌∙◌, inl, inr}
 use Rattle.std.proofs.lemmas.Bool.Decides.{Decides-and}
 use Rattle.std.proofs.lemmas.Option.{same_Some}
-use Rattle.ot_plain.specs.Trees.{Alphabet, Variable, Tm}
-use Rattle.ot_plain.specs.Hol.{TypeMap, TermMap, type_at, term_at, inst_var}
-use Rattle.ot_plain.specs.Hol.{same_var, same_tm, subst_tm, vars_tm, IsFree, IsTyped}
-use Rattle.ot_plain.specs.Rules.{has_type}
-use Rattle.ot_plain.specs.Lists.{IsMember, AreDistinct}
+use Rattle.ot_logic.specs.Trees.{Alphabet, Variable, Tm}
+use Rattle.ot_logic.specs.Hol.{TypeMap, TermMap, type_at, term_at, inst_var}
+use Rattle.ot_logic.specs.Hol.{same_var, same_tm, subst_tm, vars_tm, IsFree, IsTyped}
+use Rattle.ot_logic.specs.Rules.{has_type}
+use Rattle.ot_logic.specs.Lists.{IsMember, AreDistinct}
 use Rattle.ot_laws.proofs.Tests.{Tells, cases_of, same_var-is, same_tm-is, has_type-is}
 use Rattle.ot_laws.proofs.Typed.{term_at-typed}
 use Rattle.ot_match.specs.Matching.{each_once, same_key, keys, frees_tm, IsMatch, type_pairs_tm}
@@ -18,7 +18,7 @@ use Rattle.ot_match.specs.Laws.{MatchedIsMatch, NoneMatch, OneMatch, AnySubstitu
 use Rattle.ot_match.proofs.Once.{each_once-map, each_once-distinct, each_once-member, by-keys, at-graph}
 use Rattle.ot_match.proofs.Pairs.{type_pairs_tm-bind, term_pairs-bind, frees-member}
 use Rattle.ot_match.proofs.Pairs.{member-frees, inst-same, bind-same, var-types}
-use Rattle.ot_plain.proofs.Members.{map_agree}
+use Rattle.ot_logic.proofs.Members.{map_agree}
 
 map-map : {A B C : Type 0} (f : A → B) (g : B → C) (xs : List A) → map g (map f xs) ≡ map (λ x. g (f x)) xs
 map-map f g [] = refl

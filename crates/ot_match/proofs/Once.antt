@@ -3,10 +3,10 @@ use Rattle.std.specs.Prelude.{◌≢◌}
 use Rattle.std.specs.Bool.{Decides}
 use Rattle.std.proofs.Common.{◌≡◌, Bool, true, false, cond, List, [], ◌∷◌}
 use Rattle.std.proofs.Common.{map, refl, sym, ap, ◌∙◌, inl, inr}
-use Rattle.ot_plain.specs.Lists.{IsMember, AreDistinct}
+use Rattle.ot_logic.specs.Lists.{IsMember, AreDistinct}
 use Rattle.ot_laws.proofs.Tests.{cases_of}
 use Rattle.ot_match.specs.Matching.{without, each_once, keys}
-use Rattle.ot_plain.proofs.Members.{map_agree}
+use Rattle.ot_logic.proofs.Members.{map_agree}
 
 -- what a function does to a list, when the test goes along with it
 module _ {A B : Type 0} (same : A → A → Bool) (alike : B → B → Bool) (f : A → B)

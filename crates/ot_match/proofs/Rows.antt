@@ -1,8 +1,8 @@
 -- Patterns and what they match, over numbers: 0 is bool, 1 the arrow and 2 the equality.
 use Rattle.std.proofs.Common.{◌≡◌, ℕ, [], ◌∷◌, Option, Some, None, refl}
-use Rattle.ot_plain.specs.Naming.{numbers}
-use Rattle.ot_plain.specs.Trees.{Ty, TyVar, Tm, Free, Bound, App, Abs}
-use Rattle.ot_plain.specs.Hol.{TypeMap, TermMap, bool_ty, fun_ty, equation}
+use Rattle.ot_logic.specs.Naming.{numbers}
+use Rattle.ot_logic.specs.Trees.{Ty, TyVar, Tm, Free, Bound, App, Abs}
+use Rattle.ot_logic.specs.Hol.{TypeMap, TermMap, bool_ty, fun_ty, equation}
 use Rattle.ot_match.specs.Matching.{matched}
 
 abbrev truth : Ty ℕ

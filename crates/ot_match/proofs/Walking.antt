@@ -8,11 +8,11 @@ use Rattle.std.proofs.Common.{Option, Some, None, refl, sym, ap, subst, ◌∙�
 use Rattle.std.proofs.lemmas.Option.{same_Some}
 use Rattle.std.proofs.lemmas.List.{map-append}
 use Rattle.std.proofs.lemmas.Bool.Decides.{Decides-eqb}
-use Rattle.ot_plain.specs.Trees.{Alphabet, Ty, Tys, TyVar, TyOp, NoTys, MoreTys}
-use Rattle.ot_plain.specs.Trees.{Variable, Tm, Free, Con, Bound, App, Abs}
-use Rattle.ot_plain.specs.Hol.{TypeMap, TermMap, type_at, term_at, inst_by, inst_all, inst_var, vars_ty, vars_all}
-use Rattle.ot_plain.specs.Hol.{vars_tm, bind, subst_tm, type_in, HasType, IsTyped, same_ty, same_var, same_tm}
-use Rattle.ot_plain.specs.Lists.{AreDistinct}
+use Rattle.ot_logic.specs.Trees.{Alphabet, Ty, Tys, TyVar, TyOp, NoTys, MoreTys}
+use Rattle.ot_logic.specs.Trees.{Variable, Tm, Free, Con, Bound, App, Abs}
+use Rattle.ot_logic.specs.Hol.{TypeMap, TermMap, type_at, term_at, inst_by, inst_all, inst_var, vars_ty, vars_all}
+use Rattle.ot_logic.specs.Hol.{vars_tm, bind, subst_tm, type_in, HasType, IsTyped, same_ty, same_var, same_tm}
+use Rattle.ot_logic.specs.Lists.{AreDistinct}
 use Rattle.ot_laws.proofs.Tests.{Tells, cases_of, same_ty-is, same_var-is, same_tm-is}
 use Rattle.ot_laws.proofs.Typed.{term_at-typed}
 use Rattle.ot_match.specs.Matching.{keys, frees_tm, IsMatch, matched}

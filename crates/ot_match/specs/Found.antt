@@ -1,9 +1,9 @@
 -- What a match of the code stands for, in a kernel.
 use Rattle.std.specs.Prelude.{◌<◌, ℕ, List, map, length}
 use Rattle.std.specs.List.{All}
-use Rattle.ot_plain.specs.Names.{Name}
-use Rattle.ot_plain.specs.Hol.{TypeMap, TermMap}
-use Rattle.ot_plain.specs.Naming.{names}
+use Rattle.ot_logic.specs.Names.{Name}
+use Rattle.ot_logic.specs.Hol.{TypeMap, TermMap}
+use Rattle.ot_logic.specs.Naming.{names}
 use Rattle.ot_kernel.specs.State.{State, type_at, term_at}
 use Rattle.ot_match.specs.declared.find.Match.{Match}
 

@@ -1,8 +1,8 @@
 -- Laws of matching, for an alphabet of names.
 use Rattle.std.specs.Prelude.{◌≡◌, ◌↔◌, Some, None}
-use Rattle.ot_plain.specs.Lists.{IsMember}
-use Rattle.ot_plain.specs.Trees.{Alphabet, Variable, Tm}
-use Rattle.ot_plain.specs.Hol.{TypeMap, TermMap, type_at, term_at, inst_var, subst_tm, IsTyped, IsFree, vars_tm}
+use Rattle.ot_logic.specs.Lists.{IsMember}
+use Rattle.ot_logic.specs.Trees.{Alphabet, Variable, Tm}
+use Rattle.ot_logic.specs.Hol.{TypeMap, TermMap, type_at, term_at, inst_var, subst_tm, IsTyped, IsFree, vars_tm}
 use Rattle.ot_match.specs.Matching.{IsMatch, matched}
 
 module _ {N : Type 0} (alphabet : Alphabet N) where

@@ -1,10 +1,11 @@
 -- What the parts of the matcher answer.
 use Rattle.std.specs.Prelude.{◌≡◌, Bool, true, false, List, [], Option, Some, None, is_some}
 use Rattle.std.specs.List.{list_any}
-use Rattle.ot_plain.specs.Names.{Name}
-use Rattle.ot_plain.specs.Naming.{names}
-use Rattle.ot_plain.specs.Trees.{Variable, Named}
-use Rattle.ot_plain.specs.Hol.{place, nameless, nameless_in, type_in}
+use Rattle.ot_logic.specs.Names.{Name}
+use Rattle.ot_logic.specs.Naming.{names}
+use Rattle.ot_logic.specs.Trees.{Variable, Named}
+use Rattle.ot_logic.specs.Hol.{type_in}
+use Rattle.ot_logic.specs.NamedTerms.{place, nameless, nameless_in}
 
 -- the new maps, where the answer is that there are some
 abbrev pub answered : {M : Type 0} → Bool → M → Option M

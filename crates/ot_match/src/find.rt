@@ -1,14 +1,14 @@
 ghost use Rattle.std.specs.Prelude.{◌≡◌, ◌<◌, length, IfOk, IfSome};
 ghost use Rattle.std.specs.Option.{option_map};
-ghost use Rattle.ot_plain.specs.Naming.{names};
+ghost use Rattle.ot_logic.specs.Naming.{names};
 ghost use Rattle.ot_kernel.specs.State.{term_at};
 ghost use Rattle.ot_match.specs.Matching.{matched};
-ghost use Rattle.ot_plain.specs.PlainTrees.{term_of_tree};
+ghost use Rattle.ot_logic.specs.PlainTrees.{term_of_tree};
 ghost use Rattle.ot_match.specs.Found.{maps_of, IsMatchIn};
 
 use crate::terms::match_term;
 use ot_kernel::Kernel;
-use ot_plain::{Memory, Name, Tm};
+use ot_logic::{Memory, Name, Tm};
 use ot_term::TermId;
 use ot_type::TypeId;
 use ot_view::Binders;

@@ -1,5 +1,5 @@
 //! Laws of the definitions: each call has an empty body, and its postcondition is a theorem.
-ghost use Rattle.ot_plain.specs.Naming.{names, numbers};
+ghost use Rattle.ot_logic.specs.Naming.{names, numbers};
 ghost use Rattle.ot_match.specs.Walk.{WalkMatches};
 ghost use Rattle.ot_match.specs.Laws.{MatchedIsMatch, NoneMatch, OneMatch, AnySubstitution};
 

@@ -1,10 +1,10 @@
 //! Names, copied and compared.
 ghost use Rattle.std.specs.Prelude.{◌≡◌, ◌<◌, length, IfOk};
-ghost use Rattle.ot_plain.specs.Names.{same_name};
+ghost use Rattle.ot_logic.specs.Names.{same_name};
 ghost use Rattle.ot_kernel.specs.State.{name_at};
 
 use ot_kernel::Kernel;
-use ot_plain::{Name, NameId};
+use ot_logic::{Name, NameId};
 use std::alloc::{AllocError, Global};
 
 /// A name equal to this one.

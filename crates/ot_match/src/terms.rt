@@ -2,13 +2,14 @@
 ghost use Rattle.std.specs.Prelude.{◌≡◌, ◌↔◌, ◌<◌, List, length, map, Some, is_some, IfOk, OnOk, IfSome, IsTrue};
 ghost use Rattle.std.specs.Map.{lookup};
 ghost use Rattle.std.specs.Option.{option_map};
-ghost use Rattle.ot_plain.specs.Names.{Name as NameValue};
-ghost use Rattle.ot_plain.specs.Naming.{names};
-ghost use Rattle.ot_plain.specs.Trees.{Variable, Free, Con, Bound};
-ghost use Rattle.ot_plain.specs.Hol.{same_var, nameless_in, place};
+ghost use Rattle.ot_logic.specs.Names.{Name as NameValue};
+ghost use Rattle.ot_logic.specs.Naming.{names};
+ghost use Rattle.ot_logic.specs.Trees.{Variable, Free, Con, Bound};
+ghost use Rattle.ot_logic.specs.Hol.{same_var};
+ghost use Rattle.ot_logic.specs.NamedTerms.{nameless_in, place};
 ghost use Rattle.ot_kernel.specs.State.{variable_at, named_at, term_at, type_at};
 ghost use Rattle.ot_match.specs.Walk.{Maps, put_term, walk_term};
-ghost use Rattle.ot_plain.specs.PlainTrees.{type_of_tree, term_of_tree};
+ghost use Rattle.ot_logic.specs.PlainTrees.{type_of_tree, term_of_tree};
 ghost use Rattle.ot_match.specs.Found.{terms_of, maps_of, AreTermsIn, IsMatchIn};
 ghost use Rattle.ot_view.specs.Nodes.{IsKey, AreKeysIn};
 ghost use Rattle.ot_view.specs.Binders.{binders_at, AreKeys};
@@ -18,7 +19,7 @@ use crate::find::Match;
 use crate::names::{copy_name, is_name, is_same_name};
 use crate::types::match_type;
 use ot_kernel::Kernel;
-use ot_plain::{Memory, Name, Tm, Ty};
+use ot_logic::{Memory, Name, Tm, Ty};
 use ot_term::{TermId, TermNode, VarKey};
 use ot_type::TypeId;
 use ot_view::{
@@ -214,7 +215,7 @@ fn is_bound_at(kernel: &Kernel, binders: &Binders<'_>, number: u64, id: TermId) 
 
 /// Matches a term under binders. The recursion is as deep as the pattern.
 #[cycle(terms)]
-#[tactic(auto, using(ot_plain::proofs::PlainTrees::term_steps))]
+#[tactic(auto, using(ot_logic::proofs::PlainTrees::term_steps))]
 pub(crate) fn match_term(
     alloc: Global,
     kernel: &Kernel,

@@ -2,17 +2,17 @@
 ghost use Rattle.std.specs.Prelude.{◌≡◌, ◌<◌, length, map, IfOk, OnOk};
 ghost use Rattle.std.specs.List.{All};
 ghost use Rattle.std.specs.Map.{lookup};
-ghost use Rattle.ot_plain.specs.Names.{same_name};
-ghost use Rattle.ot_plain.specs.Naming.{names};
+ghost use Rattle.ot_logic.specs.Names.{same_name};
+ghost use Rattle.ot_logic.specs.Naming.{names};
 ghost use Rattle.ot_kernel.specs.State.{type_at, types_at};
 ghost use Rattle.ot_match.specs.Walk.{put_type, walk_type, walk_types};
-ghost use Rattle.ot_plain.specs.PlainTrees.{type_of_tree, tys_of};
+ghost use Rattle.ot_logic.specs.PlainTrees.{type_of_tree, tys_of};
 ghost use Rattle.ot_match.specs.Found.{types_of, AreTypesIn};
 ghost use Rattle.ot_match.specs.Steps.{answered};
 
 use crate::names::{copy_name, is_name, is_same_name};
 use ot_kernel::Kernel;
-use ot_plain::{Memory, Name, Ty};
+use ot_logic::{Memory, Name, Ty};
 use ot_type::{TypeId, TypeNode};
 use ot_view::{same_type, type_node};
 use std::alloc::Global;
@@ -56,7 +56,7 @@ fn put_type(
 
 /// Matches a type.
 #[cycle(types)]
-#[tactic(auto, using(ot_plain::proofs::PlainTrees::type_steps))]
+#[tactic(auto, using(ot_logic::proofs::PlainTrees::type_steps))]
 pub(crate) fn match_type(
     alloc: Global,
     kernel: &Kernel,

@@ -1,8 +1,8 @@
 -- What the minimised article does when it is run alone.
 use Rattle.std.proofs.Common.{ℕ, ◌<◌, ◌≤◌, ◌^◌, List, length}
 use Rattle.std.specs.Prelude.{Result, Ok, Err, OnOk}
-use Rattle.ot_plain.specs.Names.{Name, same_name-Decides}
-use Rattle.ot_plain.specs.Naming.{names}
+use Rattle.ot_logic.specs.Names.{Name, same_name-Decides}
+use Rattle.ot_logic.specs.Naming.{names}
 use Rattle.ot_written.specs.Uses.{is_shared}
 use Rattle.ot_written.specs.Laws.{SameOriginLaw, StoredEnoughLaw}
 use Rattle.ot_machine.specs.States.{Export, RunState}

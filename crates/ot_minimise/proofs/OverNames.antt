@@ -2,9 +2,9 @@
 use Rattle.std.proofs.Common.{◌≡◌, ℕ, zero, suc, ◌<◌, List, [], ◌∷◌, length, map, refl, arith}
 use Rattle.std.specs.Prelude.{pos}
 use Rattle.std.specs.List.{All}
-use Rattle.ot_plain.specs.Names.{Name}
-use Rattle.ot_plain.specs.Trees.{Definition}
-use Rattle.ot_plain.specs.Naming.{name_of, IsNameTable}
+use Rattle.ot_logic.specs.Names.{Name}
+use Rattle.ot_logic.specs.Trees.{Definition}
+use Rattle.ot_logic.specs.Naming.{name_of, IsNameTable}
 use Rattle.ot_kernel.specs.State.{name_at}
 use Rattle.ot_kernel.proofs.Namings.{name_of-index}
 use Rattle.ot_trace.specs.Origins.{Number, map_origin}

@@ -1,8 +1,8 @@
 -- The minimised article of a run.
 use Rattle.std.specs.Prelude.{ℕ, Bool, List, map}
 use Rattle.std.specs.List.{All}
-use Rattle.ot_plain.specs.Names.{Name}
-use Rattle.ot_plain.specs.Naming.{names}
+use Rattle.ot_logic.specs.Names.{Name}
+use Rattle.ot_logic.specs.Naming.{names}
 use Rattle.ot_trace.specs.Origins.{Origin}
 use Rattle.ot_written.specs.Same.{same_origin}
 use Rattle.ot_written.specs.Uses.{article}

@@ -5,8 +5,8 @@ ghost use Rattle.ot_write.specs.Bytes.{Writes};
 ghost use Rattle.ot_minimise.specs.Minimised.{minimised, roots_in, AreLawful, IsMinimised};
 
 use ot_article::written_article_law;
+use ot_logic::Memory;
 use ot_machine::{Export, Session};
-use ot_plain::Memory;
 use ot_write::{Roots, WriteRefusal, write_article};
 use ot_written::{same_origin_law, stored_enough_law};
 use std::alloc::Global;

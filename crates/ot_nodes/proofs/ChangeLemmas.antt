@@ -4,11 +4,11 @@ use Rattle.std.specs.Map.{lookup}
 use Rattle.std.proofs.Common.{◌≡◌, ℕ, Bool, true, false, cond, List, None, Some}
 use Rattle.std.proofs.Common.{BuildHasherDefault, FoldHasher, refl, sym, ap, subst, ◌∙◌}
 use Rattle.indexmap.specs.IndexMap.{IndexMap}
-use Rattle.ot_plain.specs.Names.{Name}
-use Rattle.ot_plain.specs.Naming.{names}
-use Rattle.ot_plain.specs.Table.{Extends, IsInjective}
-use Rattle.ot_plain.specs.Trees.{Ty, Tm, Free, Con, Bound, App, Abs}
-use Rattle.ot_plain.specs.Hol.{inst, same_var, term_at as image_at}
+use Rattle.ot_logic.specs.Names.{Name}
+use Rattle.ot_logic.specs.Naming.{names}
+use Rattle.ot_logic.specs.Table.{Extends, IsInjective}
+use Rattle.ot_logic.specs.Trees.{Ty, Tm, Free, Con, Bound, App, Abs}
+use Rattle.ot_logic.specs.Hol.{inst, same_var, term_at as image_at}
 use Rattle.ot_nodes.specs.Items.{Item, TermItem, IsType, IsTerm, HasName, HasTerm, name_at, type_at, term_at}
 use Rattle.ot_nodes.specs.Changing.{Changing, Closing, Opening, Putting, changed, retyped, inner, inner_of}
 use Rattle.ot_nodes.specs.Changing.{opened_at, variable_at, type_map, term_map, changing, HasVariable}

@@ -2,11 +2,11 @@
 use Rattle.std.proofs.Common.{◌≡◌, ℕ, List, [], ◌∷◌, ◌++◌, None, Some, refl, sym, ap, subst, ◌∙◌}
 use Rattle.std.specs.Map.{lookup}
 use Rattle.std.proofs.lemmas.List.Elements.{All-push}
-use Rattle.ot_plain.specs.Names.{Name}
-use Rattle.ot_plain.specs.Naming.{names}
-use Rattle.ot_plain.specs.Table.{Extends, IsInjective}
-use Rattle.ot_plain.specs.Trees.{Ty, Tys, TyVar, TyOp, NoTys, MoreTys}
-use Rattle.ot_plain.specs.Hol.{TypeMap, inst, inst_all, type_at as image_of}
+use Rattle.ot_logic.specs.Names.{Name}
+use Rattle.ot_logic.specs.Naming.{names}
+use Rattle.ot_logic.specs.Table.{Extends, IsInjective}
+use Rattle.ot_logic.specs.Trees.{Ty, Tys, TyVar, TyOp, NoTys, MoreTys}
+use Rattle.ot_logic.specs.Hol.{TypeMap, inst, inst_all, type_at as image_of}
 use Rattle.std.proofs.Common.{nat_eq}
 use Rattle.ot_nodes.specs.Items.{Item, TypeItem, HasName, HasType, IsType, name_at, type_at, types_at}
 use Rattle.ot_nodes.specs.Changing.{type_map, HasTypes, HasInstances}

@@ -3,9 +3,9 @@ use Rattle.std.proofs.Common.{◌≡◌, ℕ, ◌<◌, List, [], ◌∷◌, leng
 use Rattle.std.specs.List.{All}
 use Rattle.std.proofs.lemmas.Option.{get_or_from_slice_get, slice_get_within}
 use Rattle.std.proofs.lemmas.List.Elements.{All-head, All-tail}
-use Rattle.ot_plain.specs.Names.{Name}
-use Rattle.ot_plain.specs.Trees.{Ty, Tm}
-use Rattle.ot_plain.specs.Table.{Extends, IsInjective}
+use Rattle.ot_logic.specs.Names.{Name}
+use Rattle.ot_logic.specs.Trees.{Ty, Tm}
+use Rattle.ot_logic.specs.Table.{Extends, IsInjective}
 use Rattle.ot_nodes.specs.Items.{Item, NameItem, TypeItem, TermItem, as_name, as_type, as_term, IsName, IsType}
 use Rattle.ot_nodes.specs.Items.{IsTerm, HasName, HasType, HasTerm, name_at, type_at, term_at, types_at}
 

@@ -9,11 +9,11 @@ use Rattle.std.proofs.Common.{◌≡◌, ℕ, Bool, true, false, ◌&&◌, cond,
 use Rattle.std.proofs.Common.{List, [], ◌∷◌, None, Some, refl, sym, ap, subst, ◌∙◌, arith}
 use Rattle.std.proofs.lemmas.List.Elements.{All-head, All-tail}
 use Rattle.std.proofs.lemmas.Option.{same_Some, none-some}
-use Rattle.ot_plain.specs.Names.{Name, same_name, same_name-Decides}
-use Rattle.ot_plain.specs.Naming.{names}
-use Rattle.ot_plain.specs.Table.{Extends, IsInjective}
-use Rattle.ot_plain.specs.Trees.{TyVar, Tm, Free}
-use Rattle.ot_plain.specs.Hol.{TypeMap, inst, same_ty, same_var, type_at as image_of, term_at as image_at}
+use Rattle.ot_logic.specs.Names.{Name, same_name, same_name-Decides}
+use Rattle.ot_logic.specs.Naming.{names}
+use Rattle.ot_logic.specs.Table.{Extends, IsInjective}
+use Rattle.ot_logic.specs.Trees.{TyVar, Tm, Free}
+use Rattle.ot_logic.specs.Hol.{TypeMap, inst, same_ty, same_var, type_at as image_of, term_at as image_at}
 use Rattle.ot_laws.proofs.Tests.{tells_names, same_ty-is}
 use Rattle.ot_nodes.specs.Items.{Item, TypeItem, TermItem, IsType, IsTerm, HasName}
 use Rattle.ot_nodes.specs.Items.{HasType, HasTerm, name_at, type_at, term_at}

@@ -8,13 +8,13 @@ use Rattle.std.specs.Cmp.Derive.{both_true}
 use Rattle.std.proofs.lemmas.Option.{none-some}
 use Rattle.std.proofs.lemmas.List.Elements.{All-head, All-tail}
 use Rattle.std.proofs.lemmas.Slice.Eq.{bytes_eq-Decides}
-use Rattle.ot_plain.specs.Names.{Name, same_name-Decides}
-use Rattle.ot_plain.specs.Trees.{Ty, TyVar, TyOp, Tm, Free, Con, Bound, App, Abs}
-use Rattle.ot_plain.specs.Table.{Extends, IsInjective}
-use Rattle.ot_plain.specs.Naming.{names}
-use Rattle.ot_plain.specs.Interned.{NodeLaws, IsSound}
-use Rattle.ot_plain.proofs.TableLemmas.{get_or-Extends, Extends-refl}
-use Rattle.ot_plain.proofs.InternedLemmas.{pushed, Pushed}
+use Rattle.ot_logic.specs.Names.{Name, same_name-Decides}
+use Rattle.ot_logic.specs.Trees.{Ty, TyVar, TyOp, Tm, Free, Con, Bound, App, Abs}
+use Rattle.ot_logic.specs.Table.{Extends, IsInjective}
+use Rattle.ot_logic.specs.Naming.{names}
+use Rattle.ot_logic.specs.Interned.{NodeLaws, IsSound}
+use Rattle.ot_logic.proofs.TableLemmas.{get_or-Extends, Extends-refl}
+use Rattle.ot_logic.proofs.InternedLemmas.{pushed, Pushed}
 use Rattle.std.specs.Map.{keys_of, lookup}
 use Rattle.std.proofs.lemmas.Bool.{and_parts}
 use Rattle.indexmap.specs.IndexMap.{IndexMap, keys, insert_entry}
@@ -30,7 +30,7 @@ use Rattle.ot_nodes.specs.declared.node.TermNode.{TermNode}
 use Rattle.ot_nodes.specs.declared.node.TermNode.TheVariants as tm
 use Rattle.ot_nodes.specs.declared.node.Node.{Node}
 use Rattle.ot_nodes.specs.declared.node.Node.TheVariants as node
-use Rattle.ot_nodes.specs.declared.table.Beside.{Beside}
+use Rattle.ot_nodes.specs.declared.table.NodeInfo.{NodeInfo}
 use Rattle.ot_nodes.specs.contracts.node.NodePartialEq.TheImpl as derived
 use Rattle.ot_nodes.specs.contracts.node.TypeNodePartialEq.TheImpl as derived_type
 use Rattle.ot_nodes.specs.contracts.node.TermNodePartialEq.TheImpl as derived_term
@@ -255,8 +255,8 @@ module _ (ts : List Item) (i : ℕ) where
   term-kind (node.Ty m) is = (λ p. cc, λ h. let e = is ∙ h in cc)
 
 -- ---- the table of the three primitive names
-module _ {S : Type 0} (a b c d : IndexMap Node Beside S) (n : Beside) where
-  one-more : (m o : IndexMap Node Beside S) (x : Name) (ts : List Item) → items_of m.entries ≡ ts
+module _ {S : Type 0} (a b c d : IndexMap Node NodeInfo S) (n : NodeInfo) where
+  one-more : (m o : IndexMap Node NodeInfo S) (x : Name) (ts : List Item) → items_of m.entries ≡ ts
       → IsSound tree_of AreBelow Fits m.entries (items_of m.entries) → lookup (node_eq (node.Name x)) m.entries ≡ None
       → position (node_eq (node.Name x)) (keys m) ≡ None → o.entries ≡ insert_entry node_eq m.entries (node.Name x) n
       → Pushed tree_of AreBelow Fits node_eq laws m.entries ts (node.Name x) o.entries
@@ -283,19 +283,19 @@ module _ {S : Type 0} (a b c d : IndexMap Node Beside S) (n : Beside) where
       let view : items_of a.entries ≡ [] = ap items_of empty in
       let sound = subst (λ es. IsSound tree_of AreBelow Fits es (items_of es)) (sym empty) nothing-sound in
       let one = one-more a b names.arrow [] view sound (ap (lookup (node_eq (node.Name names.arrow))) empty)
-      (ap (λ (es : List (Node × Beside)). position (node_eq (node.Name names.arrow)) (keys_of es)) empty)
+      (ap (λ (es : List (Node × NodeInfo)). position (node_eq (node.Name names.arrow)) (keys_of es)) empty)
       (add_x ∙ ap (λ x. insert_entry node_eq a.entries (node.Name x) n) is_x) in
       let first : b.entries ≡ (node.Name names.arrow, n) ∷ [] =
       one.1 ∙ ap (λ es. es ++ (node.Name names.arrow, n) ∷ []) empty in
       let two = one-more b c names.bool_name (NameItem names.arrow ∷ []) one.0.trees one.0.sound
       (ap (lookup (node_eq (node.Name names.bool_name))) first)
-      (ap (λ (es : List (Node × Beside)). position (node_eq (node.Name names.bool_name)) (keys_of es)) first)
+      (ap (λ (es : List (Node × NodeInfo)). position (node_eq (node.Name names.bool_name)) (keys_of es)) first)
       (add_y ∙ ap (λ y. insert_entry node_eq b.entries (node.Name y) n) is_y) in
       let second : c.entries ≡ (node.Name names.arrow, n) ∷ (node.Name names.bool_name, n) ∷ [] =
       two.1 ∙ ap (λ es. es ++ (node.Name names.bool_name, n) ∷ []) first in
       let three = one-more c d names.equals (NameItem names.arrow ∷ NameItem names.bool_name ∷ []) two.0.trees
       two.0.sound (ap (lookup (node_eq (node.Name names.equals))) second)
-      (ap (λ (es : List (Node × Beside)). position (node_eq (node.Name names.equals)) (keys_of es)) second)
+      (ap (λ (es : List (Node × NodeInfo)). position (node_eq (node.Name names.equals)) (keys_of es)) second)
       (add_z ∙ ap (λ z. insert_entry node_eq c.entries (node.Name z) n) is_z) in (
         record {
           nodes = three.0.sound;

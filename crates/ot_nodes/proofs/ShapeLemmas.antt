@@ -4,12 +4,12 @@ use Rattle.std.proofs.Common.{◌≡◌, ℕ, Bool, true, false, cond, List, [],
 use Rattle.std.proofs.Common.{Option, None, Some, refl, sym, ap, subst, ◌∙◌}
 use Rattle.std.specs.List.{All}
 use Rattle.std.proofs.lemmas.List.Elements.{All-head, All-tail}
-use Rattle.ot_plain.specs.Names.{same_name, same_name-Decides}
-use Rattle.ot_plain.specs.Naming.{names}
-use Rattle.ot_plain.specs.Table.{Extends, IsInjective}
-use Rattle.ot_plain.proofs.TableLemmas.{Extends-trans}
-use Rattle.ot_plain.specs.Trees.{TyOp, Con, App}
-use Rattle.ot_plain.specs.Hol.{as_fun_ty, fun_ty, bool_ty, equation}
+use Rattle.ot_logic.specs.Names.{same_name, same_name-Decides}
+use Rattle.ot_logic.specs.Naming.{names}
+use Rattle.ot_logic.specs.Table.{Extends, IsInjective}
+use Rattle.ot_logic.proofs.TableLemmas.{Extends-trans}
+use Rattle.ot_logic.specs.Trees.{TyOp, Con, App}
+use Rattle.ot_logic.specs.Hol.{as_fun_ty, fun_ty, bool_ty, equation}
 use Rattle.ot_nodes.specs.Items.{Item, HasName, HasType, HasTerm, IsName, IsType, IsTerm}
 use Rattle.ot_nodes.specs.Items.{name_at, type_at, term_at, types_at, first_items}
 use Rattle.smallvec.specs.SmallVec.{SmallVec}

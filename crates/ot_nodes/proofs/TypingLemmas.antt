@@ -11,11 +11,11 @@ use Rattle.std.specs.List.{All}
 use Rattle.std.proofs.lemmas.List.Elements.{All-head, All-tail}
 use Rattle.std.proofs.lemmas.Option.{same_Some, none-some}
 use Rattle.std.proofs.lemmas.Bool.{and_parts}
-use Rattle.ot_plain.specs.Names.{Name, same_name}
-use Rattle.ot_plain.specs.Naming.{names}
-use Rattle.ot_plain.specs.Table.{Extends, IsInjective}
-use Rattle.ot_plain.specs.Trees.{Ty, TyVar, TyOp, NoTys, MoreTys, Tm, App, Abs}
-use Rattle.ot_plain.specs.Hol.{depth_ty, same_ty, fun_ty, as_fun_ty, result_ty, applied, type_in}
+use Rattle.ot_logic.specs.Names.{Name, same_name}
+use Rattle.ot_logic.specs.Naming.{names}
+use Rattle.ot_logic.specs.Table.{Extends, IsInjective}
+use Rattle.ot_logic.specs.Trees.{Ty, TyVar, TyOp, NoTys, MoreTys, Tm, App, Abs}
+use Rattle.ot_logic.specs.Hol.{depth_ty, same_ty, fun_ty, as_fun_ty, result_ty, applied, type_in}
 use Rattle.ot_laws.proofs.Tests.{tells_names, same_ty-is}
 use Rattle.ot_records.specs.Steps.{log_depth, is_within_type, has_types_within}
 use Rattle.ot_records.specs.Walks.{loose}

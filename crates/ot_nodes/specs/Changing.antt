@@ -3,10 +3,10 @@
 use Rattle.std.specs.Prelude.{◌≡◌, ◌&&◌, ℕ, suc, Bool, ◌==◌, if◌then◌else◌, nat_eq, List, map, Some}
 use Rattle.std.specs.Map.{lookup}
 use Rattle.std.specs.List.{All}
-use Rattle.ot_plain.specs.Names.{Name}
-use Rattle.ot_plain.specs.Naming.{names}
-use Rattle.ot_plain.specs.Trees.{Ty, Variable, Tm}
-use Rattle.ot_plain.specs.Hol.{TypeMap, TermMap, inst, inst_all, type_at as image_of, close_at, open_at, subst_tm}
+use Rattle.ot_logic.specs.Names.{Name}
+use Rattle.ot_logic.specs.Naming.{names}
+use Rattle.ot_logic.specs.Trees.{Ty, Variable, Tm}
+use Rattle.ot_logic.specs.Hol.{TypeMap, TermMap, inst, inst_all, type_at as image_of, close_at, open_at, subst_tm}
 use Rattle.ot_nodes.specs.Items.{Item, IsType, IsTerm, HasName, HasType, HasTerm, name_at, type_at, types_at, term_at}
 use Rattle.ot_nodes.specs.declared.node.VariableNode.{VariableNode}
 use Rattle.ot_nodes.specs.declared.table.change.Change.{Change}

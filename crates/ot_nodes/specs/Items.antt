@@ -2,10 +2,10 @@
 use Rattle.std.specs.Prelude.{◌≡◌, ℕ, List, [], ◌∷◌, slice_get, slice_index_or, Some, refl, ◌⊎◌}
 use Rattle.std.specs.Coded.{Coded, code_by, coded⊎}
 use Rattle.std.proofs.Common.{inl, inr}
-use Rattle.ot_plain.specs.Names.{Name}
-use Rattle.ot_plain.specs.Naming.{names}
-use Rattle.ot_plain.specs.Trees.{Ty, Tys, TyVar, NoTys, MoreTys, Tm, Bound}
-use Rattle.ot_plain.specs.Codes.{coded_name, coded_ty, coded_tm}
+use Rattle.ot_logic.specs.Names.{Name}
+use Rattle.ot_logic.specs.Naming.{names}
+use Rattle.ot_logic.specs.Trees.{Ty, Tys, TyVar, NoTys, MoreTys, Tm, Bound}
+use Rattle.ot_logic.specs.Codes.{coded_name, coded_ty, coded_tm}
 
 -- a name, a type or a nameless term
 pub data Item : Type 0 where

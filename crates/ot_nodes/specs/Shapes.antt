@@ -1,7 +1,7 @@
 -- Numbers of function types.
 use Rattle.std.specs.Prelude.{◌≡◌, ℕ, List, Some}
-use Rattle.ot_plain.specs.Naming.{names}
-use Rattle.ot_plain.specs.Hol.{as_fun_ty}
+use Rattle.ot_logic.specs.Naming.{names}
+use Rattle.ot_logic.specs.Hol.{as_fun_ty}
 use Rattle.ot_nodes.specs.Items.{Item, HasType, type_at}
 
 -- the type of the number is that of functions from the type a to the type b

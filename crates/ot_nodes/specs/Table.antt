@@ -1,12 +1,12 @@
 -- The table: each number stands for a name or a tree, by its node.
 use Rattle.std.specs.Prelude.{◌≡◌, List}
 use Rattle.std.specs.List.{All}
-use Rattle.ot_plain.specs.Names.{Name}
-use Rattle.ot_plain.specs.Naming.{names}
-use Rattle.ot_plain.specs.Trees.{Ty, TyVar, TyOp, Tm, Free, Con, Bound, App, Abs}
-use Rattle.ot_plain.specs.Hol.{depth_ty, depth_tm}
-use Rattle.ot_plain.specs.Table.{Extends}
-use Rattle.ot_plain.specs.Interned.{trees_of, IsSound}
+use Rattle.ot_logic.specs.Names.{Name}
+use Rattle.ot_logic.specs.Naming.{names}
+use Rattle.ot_logic.specs.Trees.{Ty, TyVar, TyOp, Tm, Free, Con, Bound, App, Abs}
+use Rattle.ot_logic.specs.Hol.{depth_ty, depth_tm}
+use Rattle.ot_logic.specs.Table.{Extends}
+use Rattle.ot_logic.specs.Interned.{trees_of, IsSound}
 use Rattle.ot_records.specs.Walks.{loose, has_free}
 use Rattle.ot_nodes.specs.Items.{Item, NameItem, TypeItem, TermItem, name_at, type_at}
 use Rattle.ot_nodes.specs.Items.{types_at, term_at, HasName, HasType, HasTerm, first_items}
@@ -17,7 +17,7 @@ use Rattle.ot_nodes.specs.declared.node.TermNode.{TermNode}
 use Rattle.ot_nodes.specs.declared.node.TermNode.TheVariants as tm
 use Rattle.ot_nodes.specs.declared.node.Node.{Node}
 use Rattle.ot_nodes.specs.declared.node.Node.TheVariants as node
-use Rattle.ot_nodes.specs.declared.table.Beside.{Beside}
+use Rattle.ot_nodes.specs.declared.table.NodeInfo.{NodeInfo}
 
 -- the tree of a node
 abbrev pub type_tree : List Item → TypeNode → Ty Name
@@ -54,26 +54,26 @@ HasParts ts (node.Ty n) = HasTypeParts ts n
 HasParts ts (node.Tm n) = HasTermParts ts n
 
 -- what stands beside a term says how deep it is, how many abstractions it needs, and whether a variable is free
-pub record IsTermBeside (t : Tm Name) (b : Beside) : Type 0 where
+pub record IsTermBeside (t : Tm Name) (b : NodeInfo) : Type 0 where
   pub deep : b.depth ≡ depth_tm names t
   pub needs : b.loose ≡ loose t
   pub frees : b.free ≡ has_free t
 
 -- and beside a type how deep it is
-abbrev pub IsBeside : Item → Beside → Type 0
+abbrev pub IsBeside : Item → NodeInfo → Type 0
 IsBeside (NameItem n) b = Unit {0}
 IsBeside (TypeItem t) b = b.depth ≡ depth_ty names t
 IsBeside (TermItem t) b = IsTermBeside t b
 
 -- what stands beside a node fits it
-abbrev pub Fits : List Item → Node → Beside → Type 0
+abbrev pub Fits : List Item → Node → NodeInfo → Type 0
 Fits ts n b = HasParts ts n × IsBeside (tree_of ts n) b
 
 -- the items of the entries
-abbrev pub items_of : List (Node × Beside) → List Item
+abbrev pub items_of : List (Node × NodeInfo) → List Item
 items_of es = trees_of tree_of es
 
 -- what the entries keep
-pub record IsTable (es : List (Node × Beside)) (ts : List Item) : Type 0 where
+pub record IsTable (es : List (Node × NodeInfo)) (ts : List Item) : Type 0 where
   pub nodes : IsSound tree_of AreBelow Fits es ts
   pub first : Extends first_items ts

@@ -3,10 +3,10 @@ use Rattle.std.specs.Prelude.{◌≡◌, ◌&&◌, ℕ, Bool, nat_eq, nat_le, Li
 use Rattle.std.specs.Cmp.Lexicographic.{pointwise}
 use Rattle.std.specs.Map.{lookup}
 use Rattle.std.specs.List.{All}
-use Rattle.ot_plain.specs.Names.{Name}
-use Rattle.ot_plain.specs.Naming.{names}
-use Rattle.ot_plain.specs.Trees.{Ty, Tm}
-use Rattle.ot_plain.specs.Hol.{type_in, depth_ty}
+use Rattle.ot_logic.specs.Names.{Name}
+use Rattle.ot_logic.specs.Naming.{names}
+use Rattle.ot_logic.specs.Trees.{Ty, Tm}
+use Rattle.ot_logic.specs.Hol.{type_in, depth_ty}
 use Rattle.ot_records.specs.Steps.{log_depth, has_types_within}
 use Rattle.ot_nodes.specs.Items.{Item, HasType, HasTerm, type_at, term_at}
 use Rattle.ot_nodes.specs.declared.table.typing.Typed.{Typed}

@@ -1,4 +1,4 @@
-use ot_plain::Name;
+use ot_logic::Name;
 use smallvec::SmallVec;
 use std::marker::Model;
 

@@ -2,10 +2,10 @@
 ghost use Rattle.std.specs.Prelude.{◌≡◌, ◌↔◌, ◌+◌, ◌<◌, IsTrue, length, slice_get, Some, IfOk};
 ghost use Rattle.std.specs.Option.{option_map};
 ghost use Rattle.std.specs.List.{All};
-ghost use Rattle.ot_plain.specs.Table.{Extends, IsInjective};
-ghost use Rattle.ot_plain.specs.Naming.{names};
-ghost use Rattle.ot_plain.specs.Trees.{TyVar, TyOp, Free, Con, Bound, App, Abs};
-ghost use Rattle.ot_plain.specs.Hol.{depth_ty, depth_all, depth_tm};
+ghost use Rattle.ot_logic.specs.Table.{Extends, IsInjective};
+ghost use Rattle.ot_logic.specs.Naming.{names};
+ghost use Rattle.ot_logic.specs.Trees.{TyVar, TyOp, Free, Con, Bound, App, Abs};
+ghost use Rattle.ot_logic.specs.Hol.{depth_ty, depth_all, depth_tm};
 ghost use Rattle.ot_records.specs.Walks.{loose, has_free};
 ghost use Rattle.ot_nodes.specs.Below.{is_name_node, is_type_node, is_term_node};
 
@@ -17,7 +17,7 @@ mod typing;
 use crate::node::{NameId, Node, TermId, TermNode, TypeId, TypeNode, VariableNode};
 pub use change::{Change, Done};
 use indexmap::IndexMap;
-use ot_plain::{Memory, Name};
+use ot_logic::{Memory, Name};
 use smallvec::SmallVec;
 use std::alloc::Global;
 use std::marker::Model;
@@ -26,7 +26,7 @@ pub use typing::{DEPTH_LIMIT, Typed, Typings};
 /// What stands beside a node: its depth; and of a term how many abstractions have to stand around
 /// it, and whether a variable is free in it.
 #[derive(Clone, Copy)]
-pub(crate) struct Beside {
+pub(crate) struct NodeInfo {
     depth: u64,
     loose: u64,
     free: bool,
@@ -37,7 +37,7 @@ pub(crate) struct Beside {
 /// this table.
 #[derive(Drop)]
 pub struct Nodes {
-    nodes: IndexMap<Node, Beside>,
+    nodes: IndexMap<Node, NodeInfo>,
 }
 
 impl Model for Nodes {
@@ -60,13 +60,13 @@ impl Nodes {
     ghost use Rattle.ot_nodes.specs.Items.{Item, IsName, IsType, IsTerm, HasName, HasType, HasTerm, name_at, type_at, types_at, term_at, first_items};
     ghost use Rattle.ot_nodes.specs.Table.{type_tree, term_tree, tree_of, HasParts, HasTypeParts, HasTermParts, IsBeside, IsTermBeside, Fits};
     ghost use Rattle.ot_nodes.specs.Below.{AreTypesBelow, AreTermsBelow, AreBelow};
-    ghost use Rattle.ot_plain.specs.Interned.{IsEntry};
+    ghost use Rattle.ot_logic.specs.Interned.{IsEntry};
 
     /// The table of the three primitive names alone.
     pub fn new(alloc: Global) -> Result<Nodes, Memory>
         ensures { IfOk result (λ t. t ≡ first_items) }
     {
-        let none = Beside {
+        let none = NodeInfo {
             depth: 0,
             loose: 0,
             free: false,
@@ -281,7 +281,7 @@ impl Nodes {
     }
 
     /// What stands beside a term.
-    fn beside(&self, id: TermId) -> Beside
+    fn beside(&self, id: TermId) -> NodeInfo
         requires { HasTerm self.now id }
         ensures { IsTermBeside (term_at self.now id) result }
     {
@@ -299,7 +299,7 @@ impl Nodes {
     }
 
     /// The node of a number, and what stands beside it.
-    fn entry(&self, index: usize) -> (&Node, &Beside)
+    fn entry(&self, index: usize) -> (&Node, &NodeInfo)
         requires { index < length self.now }
         ensures entry { IsEntry tree_of AreBelow Fits self.now index result.0.now result.1.now }
         ensures once { IsInjective self.now }
@@ -311,17 +311,17 @@ impl Nodes {
     }
 
     /// What is to stand beside a new node.
-    fn beside_new(&self, node: &Node) -> Result<Beside, Memory>
+    fn beside_new(&self, node: &Node) -> Result<NodeInfo, Memory>
         requires { HasParts self.now node.now }
         ensures { IfOk result (IsBeside (tree_of self.now node.now)) }
     {
         match node {
-            Node::Name(_) => Ok(Beside {
+            Node::Name(_) => Ok(NodeInfo {
                 depth: 0,
                 loose: 0,
                 free: false,
             }),
-            Node::Ty(node) => Ok(Beside {
+            Node::Ty(node) => Ok(NodeInfo {
                 depth: self.depth_new(node)?,
                 loose: 0,
                 free: false,
@@ -342,29 +342,29 @@ impl Nodes {
     }
 
     /// What is to stand beside a new term.
-    fn term_beside_new(&self, node: TermNode) -> Result<Beside, Memory>
+    fn term_beside_new(&self, node: TermNode) -> Result<NodeInfo, Memory>
         requires { HasTermParts self.now node }
         ensures { IfOk result (IsTermBeside (term_tree self.now node)) }
     {
         match node {
-            TermNode::Free(_) => Ok(Beside {
+            TermNode::Free(_) => Ok(NodeInfo {
                 depth: 1,
                 loose: 0,
                 free: true,
             }),
-            TermNode::Const(_, _) => Ok(Beside {
+            TermNode::Const(_, _) => Ok(NodeInfo {
                 depth: 1,
                 loose: 0,
                 free: false,
             }),
-            TermNode::Bound(place) => Ok(Beside {
+            TermNode::Bound(place) => Ok(NodeInfo {
                 depth: 1,
                 loose: above(place)?,
                 free: false,
             }),
             TermNode::App(f, x) => {
                 let (f, x) = (self.beside(f), self.beside(x));
-                Ok(Beside {
+                Ok(NodeInfo {
                     depth: above(f.depth.max(x.depth))?,
                     loose: f.loose.max(x.loose),
                     free: f.free || x.free,
@@ -372,7 +372,7 @@ impl Nodes {
             }
             TermNode::Abs(_, body) => {
                 let body = self.beside(body);
-                Ok(Beside {
+                Ok(NodeInfo {
                     depth: above(body.depth)?,
                     loose: body.loose.saturating_sub(1),
                     free: body.free,

@@ -4,10 +4,10 @@ use Rattle.std.specs.Prelude.{cond, List, [], ◌∷◌, ◌++◌, length, codes
 use Rattle.std.proofs.Math.ListN.{drop_of_length-le}
 use Rattle.std.proofs.Math.Seq.{drop-cons}
 use Rattle.std.proofs.Common.{refl, sym, ◌∙◌, ap, arith, append_assoc, length-append, get_or, drop}
-use Rattle.ot_plain.specs.Names.{Name}
-use Rattle.ot_plain.specs.Naming.{names}
-use Rattle.ot_plain.specs.Trees.{Ty, TyVar, TyOp, NoTys, MoreTys, Tm, Free, Con, Bound, App, Abs}
-use Rattle.ot_plain.specs.Hol.{as_fun_ty}
+use Rattle.ot_logic.specs.Names.{Name}
+use Rattle.ot_logic.specs.Naming.{names}
+use Rattle.ot_logic.specs.Trees.{Ty, TyVar, TyOp, NoTys, MoreTys, Tm, Free, Con, Bound, App, Abs}
+use Rattle.ot_logic.specs.Hol.{as_fun_ty}
 use Rattle.ot_nodes.specs.Items.{Item, type_at, types_at}
 use Rattle.ot_listing.proofs.Pieces.{operator-pieces}
 use Rattle.ot_text.specs.Texts.{name_text, is_function, is_equation, ty_text, spaced_text, tm_text}

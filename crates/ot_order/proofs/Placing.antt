@@ -9,8 +9,8 @@ use Rattle.std.proofs.lemmas.Cmp.{nat_list_cmp_total}
 use Rattle.std.proofs.lemmas.List.{get_or-map, get_or_default, length-map}
 use Rattle.std.proofs.lemmas.Map.Keys.{Less-from_sorted}
 use Rattle.std.proofs.Common.{refl, sym, ◌∙◌, ap, subst, arith, get_or, below_more}
-use Rattle.ot_plain.specs.Names.{Name}
-use Rattle.ot_plain.specs.Trees.{Tm}
+use Rattle.ot_logic.specs.Names.{Name}
+use Rattle.ot_logic.specs.Trees.{Tm}
 use Rattle.ot_nodes.specs.Items.{Item, term_at}
 use Rattle.ot_text.specs.Texts.{tm_text, order}
 use Rattle.ot_text.proofs.Ascending.{equal-is, order-back, order-trans}

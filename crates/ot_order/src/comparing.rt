@@ -5,8 +5,8 @@ ghost use Rattle.ot_text.specs.Texts.{tm_text, order};
 ghost use Rattle.ot_order.specs.Pieces.{HasPiece, Finds, same_piece};
 
 use crate::pieces::{Piece, open, push};
+use ot_logic::Memory;
 use ot_nodes::{Nodes, TermId};
-use ot_plain::Memory;
 use std::cmp::Ordering;
 
 /// The order of the texts of two terms. What is one and the same in both is passed over, and nothing is opened behind

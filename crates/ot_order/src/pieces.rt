@@ -6,8 +6,8 @@ ghost use Rattle.ot_text.specs.Texts.{name_text, number_text, ty_text, tm_text, 
 ghost use Rattle.ot_order.specs.Pieces.{piece_text, HasPiece, Puts, Opens};
 
 use itoa::Buffer;
+use ot_logic::Memory;
 use ot_nodes::{NameId, Nodes, TermId, TermNode, TypeId, TypeNode};
-use ot_plain::Memory;
 use ot_rules::as_equation;
 
 /// A part of a text: a byte, or the text of a type or a term.

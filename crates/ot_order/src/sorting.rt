@@ -6,8 +6,8 @@ ghost use Rattle.ot_entries.specs.Expansions.{with_term, by_text};
 ghost use Rattle.ot_order.specs.Places.{AreAscending, IsPlace};
 
 use crate::comparing::compare;
+use ot_logic::Memory;
 use ot_nodes::{Nodes, TermId};
-use ot_plain::Memory;
 use std::cmp::Ordering;
 
 /// The terms in the order of the bytes of their texts, each text once: of several terms with one text, the last of

@@ -7,8 +7,8 @@ use Rattle.std.specs.Borrow.{Bor}
 use Rattle.std.specs.Str.{bytes_eq}
 use Rattle.std.specs.Cmp.Lexicographic.{bytes_decides}
 use Rattle.std.proofs.Common.{refl, sym, ◌∙◌, ap, get_or, drop-cons, add-one}
-use Rattle.ot_plain.specs.Names.{Name, same_name, same_name-Decides}
-use Rattle.ot_plain.specs.Trees.{Symbol, ConSymbol, OpSymbol}
+use Rattle.ot_logic.specs.Names.{Name, same_name, same_name-Decides}
+use Rattle.ot_logic.specs.Trees.{Symbol, ConSymbol, OpSymbol}
 use Rattle.std.specs.List.{list_any}
 use Rattle.ot_forms.specs.Words.{is_shown, same_kind, same_text, base, namespace, symbol_name}
 use Rattle.ot_parse.specs.declared.bases.Holder.{Holder}

@@ -2,10 +2,10 @@
 use Rattle.std.specs.Prelude.{◌≡◌, ◌==◌, ℕ, suc, Bool, true, false, ◌-◌, length, cond, not}
 use Rattle.std.specs.Prelude.{◌||◌, Result, Ok, Err, IsErrAnd, List, [], ◌∷◌, ◌++◌, codes}
 use Rattle.std.proofs.Common.{refl, sym, ◌∙◌, ap, subst}
-use Rattle.ot_plain.specs.Names.{Name}
-use Rattle.ot_plain.specs.Naming.{names}
-use Rattle.ot_plain.specs.Trees.{Ty, Tys, TyOp, NoTys, MoreTys, Symbol}
-use Rattle.ot_plain.specs.Hol.{fun_ty}
+use Rattle.ot_logic.specs.Names.{Name}
+use Rattle.ot_logic.specs.Naming.{names}
+use Rattle.ot_logic.specs.Trees.{Ty, Tys, TyOp, NoTys, MoreTys, Symbol}
+use Rattle.ot_logic.specs.Hol.{fun_ty}
 use Rattle.ot_text.specs.Texts.{is_function}
 use Rattle.ot_forms.specs.Words.{IsNotation}
 use Rattle.ot_forms.specs.Reading.{Reason, NoForm, Reading, Got, Halted, next, mapped, kept}
@@ -16,7 +16,7 @@ use Rattle.ot_forms.proofs.TypeLaw.{reads}
 use Rattle.ot_parse.specs.declared.halt.Halt.{Halt}
 use Rattle.ot_parse.specs.declared.types.Back.{Back}
 use Rattle.ot_parse.specs.Gives.{IsHalt}
-use Rattle.ot_plain.specs.PlainTrees.{tys_of}
+use Rattle.ot_logic.specs.PlainTrees.{tys_of}
 use Rattle.ot_parse.specs.Frames.{Frame, Domain, Range, Argument, joined, closed}
 use Rattle.ot_parse.specs.Frames.{is_operator_type, is_spaced, after, resume, IsBackOf}
 use Rattle.ot_parse.proofs.Halts.{halt-next, halt-mapped, halt-same}

@@ -1,7 +1,7 @@
 -- A name that is read piece by piece.
 use Rattle.std.specs.Prelude.{◌≡◌, ℕ, List}
 use Rattle.std.proofs.Common.{refl, sym, ◌∙◌, ap}
-use Rattle.ot_plain.specs.Names.{Name}
+use Rattle.ot_logic.specs.Names.{Name}
 use Rattle.ot_forms.specs.Reading.{Reason, Reading, Got, Halted, mapped}
 
 pub start : (g : Name → Name) (o : Reading Name) → ((n : Name) → g n ≡ n) → mapped g o ≡ o

@@ -1,7 +1,7 @@
 -- What goes on behind what was read, and what doesn't.
 use Rattle.std.specs.Prelude.{◌≡◌, ℕ, Bool, true, false, cond, List, codes}
 use Rattle.std.proofs.Common.{◌∙◌, ap}
-use Rattle.ot_plain.specs.Names.{Name}
+use Rattle.ot_logic.specs.Names.{Name}
 use Rattle.ot_forms.specs.Reading.{Reading, Got, Halted, NoForm, next, mapped}
 use Rattle.ot_forms.specs.Reading.{kept, literal_at, spelled_at, quoted_at}
 use Rattle.ot_parse.specs.declared.halt.Halt.{Halt}

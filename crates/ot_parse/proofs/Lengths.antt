@@ -2,8 +2,8 @@
 use Rattle.std.specs.Prelude.{◌≡◌, ℕ, suc, ◌+◌, ◌==◌, Bool, true, false}
 use Rattle.std.specs.Prelude.{cond, List, [], ◌∷◌, length, codes}
 use Rattle.std.proofs.Common.{refl, sym, ◌∙◌, ap, subst, arith, length-append}
-use Rattle.ot_plain.specs.Names.{Name}
-use Rattle.ot_plain.specs.Trees.{Ty, Symbol}
+use Rattle.ot_logic.specs.Names.{Name}
+use Rattle.ot_logic.specs.Trees.{Ty, Symbol}
 use Rattle.ot_forms.specs.Words.{IsNotation, is_letter, is_inner, is_sign}
 use Rattle.ot_forms.specs.Forms.{Written, type_text, term_text}
 use Rattle.ot_forms.specs.Reading.{Reading, Got, Halted, NoForm, mapped, literal_at, part_at}

@@ -2,19 +2,19 @@
 use Rattle.std.specs.Prelude.{◌≡◌, ◌||◌, not, ℕ, Bool, true, false}
 use Rattle.std.specs.Prelude.{List, Option, Some, None, Result, Ok}
 use Rattle.std.proofs.Common.{refl, sym, ◌∙◌, ap, subst}
-use Rattle.ot_plain.specs.Answers.{◌>>=◌, some_or}
-use Rattle.ot_plain.specs.Names.{Name}
-use Rattle.ot_plain.specs.Naming.{names}
-use Rattle.ot_plain.specs.Trees.{Ty, Tm, Con, App, Symbol}
-use Rattle.ot_plain.specs.Hol.{bool_ty, same_ty, type_in}
-use Rattle.ot_plain.specs.declared.memory.Memory.{Memory}
+use Rattle.ot_logic.specs.Answers.{◌>>=◌, some_or}
+use Rattle.ot_logic.specs.Names.{Name}
+use Rattle.ot_logic.specs.Naming.{names}
+use Rattle.ot_logic.specs.Trees.{Ty, Tm, Con, App, Symbol}
+use Rattle.ot_logic.specs.Hol.{bool_ty, same_ty, type_in}
+use Rattle.ot_logic.specs.declared.memory.Memory.{Memory}
 use Rattle.ot_forms.specs.declared.fault.TextFault.TheVariants.{BadTypes, TooDeep, UnknownOperator}
 use Rattle.ot_forms.specs.Meaning.{Around, types_around, constant_of, has_type, is_typed}
 use Rattle.ot_forms.specs.Meaning.{fits, whole, relation_ty, equated, are_alike}
 use Rattle.ot_parse.specs.declared.values.Value.{Value}
 use Rattle.ot_parse.specs.declared.values.Meant.{Meant as Part}
 use Rattle.ot_parse.specs.declared.values.Meant.TheVariants as parts
-use Rattle.ot_plain.specs.PlainTrees.{type_of_tree, term_of_tree}
+use Rattle.ot_logic.specs.PlainTrees.{type_of_tree, term_of_tree}
 use Rattle.ot_parse.specs.Meant.{equal_of, infix_of, related_at}
 use Rattle.ot_parse.specs.Values.{IsValue, Means, IsWholly, IsMade, IsRelated}
 use Rattle.ot_parse.proofs.ValueLaws.{typed-test, too-deep}

@@ -2,9 +2,9 @@
 use Rattle.std.specs.Prelude.{◌≡◌, ℕ, ◌+◌, Bool, true, false, List}
 use Rattle.std.specs.Prelude.{◌∷◌, length, Option, Some, None, Result, Ok, Err}
 use Rattle.std.proofs.Common.{refl, ◌∙◌, ap}
-use Rattle.ot_plain.specs.Answers.{◌>>=◌, some_or}
-use Rattle.ot_plain.specs.Names.{Name}
-use Rattle.ot_plain.specs.Trees.{Ty, Tm, Con, Bound, App, Abs, Symbol}
+use Rattle.ot_logic.specs.Answers.{◌>>=◌, some_or}
+use Rattle.ot_logic.specs.Names.{Name}
+use Rattle.ot_logic.specs.Trees.{Ty, Tm, Con, Bound, App, Abs, Symbol}
 use Rattle.ot_forms.specs.declared.fault.TextFault.TheVariants.{Unbound, UnknownOperator, BadTypes}
 use Rattle.ot_forms.specs.Forms.{Written, Writtens, Place, FreeAs, ConAs, Equal, Infix}
 use Rattle.ot_forms.specs.Forms.{Applied, Binding, NoMore, More, type_text, term_text}

@@ -4,9 +4,9 @@ use Rattle.std.specs.Prelude.{List, ◌∷◌, map, take, slice_get, Option, Som
 use Rattle.std.specs.Option.{option_map}
 use Rattle.std.proofs.Common.{refl, sym, ◌∙◌, ap, subst, arith, get_or}
 use Rattle.std.proofs.Math.Seq.{take-suc}
-use Rattle.ot_plain.specs.Answers.{◌>>=◌, some_or}
-use Rattle.ot_plain.specs.Names.{Name}
-use Rattle.ot_plain.specs.Trees.{Ty, Bound}
+use Rattle.ot_logic.specs.Answers.{◌>>=◌, some_or}
+use Rattle.ot_logic.specs.Names.{Name}
+use Rattle.ot_logic.specs.Trees.{Ty, Bound}
 use Rattle.ot_forms.specs.declared.fault.TextFault.TheVariants.{Unbound}
 use Rattle.ot_forms.specs.Words.{same_text}
 use Rattle.ot_forms.specs.Meaning.{Around, types_around, place_of}

@@ -2,8 +2,8 @@
 use Rattle.std.specs.Prelude.{◌≡◌, ◌+◌, ◌-◌, ℕ, false}
 use Rattle.std.specs.Prelude.{length, List, [], ◌∷◌, Result, Ok, Err, IfOk, IfErr}
 use Rattle.std.proofs.Common.{sym, ◌∙◌, ap, subst, arith, inl, inr}
-use Rattle.ot_plain.specs.Names.{Name}
-use Rattle.ot_plain.specs.Trees.{Symbol}
+use Rattle.ot_logic.specs.Names.{Name}
+use Rattle.ot_logic.specs.Trees.{Symbol}
 use Rattle.ot_forms.specs.declared.fault.TextFault.{TextFault}
 use Rattle.ot_forms.specs.declared.fault.TextFault.TheVariants.{Syntax, TooManyOpen}
 use Rattle.ot_forms.specs.Words.{IsNotation}
@@ -18,7 +18,7 @@ use Rattle.ot_parse.specs.declared.refusal.ReadRefusal.{ReadRefusal}
 use Rattle.ot_parse.specs.declared.refusal.ReadRefusal.TheVariants as refusals
 use Rattle.ot_parse.specs.declared.values.Meant.TheVariants as parts
 use Rattle.ot_parse.specs.declared.values.Value.{Value}
-use Rattle.ot_plain.specs.PlainTrees.{term_of_tree}
+use Rattle.ot_logic.specs.PlainTrees.{term_of_tree}
 use Rattle.ot_parse.specs.Plain.{sequent_of}
 use Rattle.ot_parse.specs.Refused.{IsRefusal, IsTermRefusal}
 use Rattle.ot_parse.specs.Meant.{Meaning, place_at}

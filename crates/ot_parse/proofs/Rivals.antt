@@ -2,8 +2,8 @@
 use Rattle.std.specs.Prelude.{◌≡◌, Bool, true, false, cond, [], ◌∷◌, ◌++◌, ◌&&◌, List, map}
 use Rattle.std.specs.List.{list_all, list_any}
 use Rattle.std.proofs.Common.{refl, sym, ◌∙◌, ap}
-use Rattle.ot_plain.specs.Names.{Name, same_name}
-use Rattle.ot_plain.specs.Trees.{Symbol}
+use Rattle.ot_logic.specs.Names.{Name, same_name}
+use Rattle.ot_logic.specs.Trees.{Symbol}
 use Rattle.ot_forms.specs.Words.{namespace, same_kind, symbol_name, is_shown, is_short, is_hidden_in}
 use Rattle.ot_parse.specs.declared.notation.WordKind.{WordKind}
 use Rattle.ot_parse.specs.declared.notation.WordKind.TheVariants as kinds

@@ -3,8 +3,8 @@ use Rattle.std.specs.Prelude.{◌≡◌, ◌≤◌, ◌+◌, ◌-◌, ◌==◌, 
 use Rattle.std.specs.Prelude.{cond, length, List, [], ◌∷◌, codes}
 use Rattle.std.proofs.Common.{refl, sym, ◌∙◌, ap, arith, Bor}
 use Rattle.std.proofs.lemmas.Bool.Decides.{nat_tests}
-use Rattle.ot_plain.specs.Names.{Name}
-use Rattle.ot_plain.specs.Trees.{Ty, Symbol}
+use Rattle.ot_logic.specs.Names.{Name}
+use Rattle.ot_logic.specs.Trees.{Ty, Symbol}
 use Rattle.ot_forms.specs.Words.{IsNotation, is_sign}
 use Rattle.ot_forms.specs.Forms.{Written, Writtens, NoMore, More}
 use Rattle.ot_forms.specs.Meaning.{Around, meaning}

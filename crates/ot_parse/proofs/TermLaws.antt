@@ -3,8 +3,8 @@ use Rattle.std.specs.Prelude.{◌≡◌, ◌<◌, ◌≤◌, ◌+◌, ◌-◌, �
 use Rattle.std.specs.Prelude.{true, false, cond, not, length, List, [], ◌∷◌, codes}
 use Rattle.std.proofs.Common.{refl, sym, ◌∙◌, ap, subst, arith, length-append}
 use Rattle.std.proofs.lemmas.Slice.Eq.{bytes_eq-Decides}
-use Rattle.ot_plain.specs.Names.{Name}
-use Rattle.ot_plain.specs.Trees.{Ty, Symbol}
+use Rattle.ot_logic.specs.Names.{Name}
+use Rattle.ot_logic.specs.Trees.{Ty, Symbol}
 use Rattle.ot_forms.specs.Words.{IsNotation, is_sign, same_text}
 use Rattle.ot_forms.specs.Forms.{Written, Writtens, Place, FreeAs, Equal, Infix}
 use Rattle.ot_forms.specs.Forms.{Applied, Binding, More, type_text, term_text}

@@ -2,8 +2,8 @@
 use Rattle.std.specs.Prelude.{◌≡◌, ◌<◌, ◌≤◌, ◌+◌, ◌-◌, ◌==◌, ◌||◌, ℕ, zero, suc}
 use Rattle.std.specs.Prelude.{true, false, length, List, [], ◌∷◌, codes, Result, Ok, Err}
 use Rattle.std.proofs.Common.{refl, sym, ◌∙◌, ap, subst, arith, length-append, Bor}
-use Rattle.ot_plain.specs.Names.{Name}
-use Rattle.ot_plain.specs.Trees.{Ty, Symbol}
+use Rattle.ot_logic.specs.Names.{Name}
+use Rattle.ot_logic.specs.Trees.{Ty, Symbol}
 use Rattle.ot_forms.specs.Words.{IsNotation}
 use Rattle.ot_forms.specs.Forms.{Written}
 use Rattle.ot_forms.specs.Meaning.{Around}
@@ -17,8 +17,8 @@ use Rattle.ot_parse.specs.declared.terms.Front.{Front}
 use Rattle.ot_parse.specs.declared.terms.Front.TheVariants as fronts
 use Rattle.ot_parse.specs.declared.values.Meant.{Meant as Part}
 use Rattle.ot_parse.specs.Gives.{IsHalt}
-use Rattle.ot_plain.specs.declared.tree.Ty as types
-use Rattle.ot_plain.specs.PlainTrees.{type_of_tree}
+use Rattle.ot_logic.specs.declared.tree.Ty as types
+use Rattle.ot_logic.specs.PlainTrees.{type_of_tree}
 use Rattle.ot_parse.specs.Meant.{Meaning, place_at, raw, bound_of}
 use Rattle.ot_parse.specs.Values.{IsMeant, Means, meant_of}
 use Rattle.ot_parse.specs.TermFrames.{First, Body, closed, reads, begun, after, binder_at}

@@ -4,17 +4,17 @@ use Rattle.std.specs.Prelude.{[], ◌∷◌, ◌++◌, map, length, is_some, Som
 use Rattle.std.proofs.Common.{refl, sym, ◌∙◌, ap, arith, append_assoc, append-nil, get_or}
 use Rattle.std.proofs.lemmas.Bool.Decides.{nat_tests}
 use Rattle.std.proofs.lemmas.List.{length-map}
-use Rattle.ot_plain.specs.Names.{Name, spelled, same_name, same_name-Decides}
-use Rattle.ot_plain.specs.Naming.{names}
-use Rattle.ot_plain.specs.Trees.{Ty, TyVar, TyOp, NoTys, MoreTys, Tm, App}
-use Rattle.ot_plain.specs.Hol.{same_ty, same_tys, fun_ty, bool_ty}
+use Rattle.ot_logic.specs.Names.{Name, spelled, same_name, same_name-Decides}
+use Rattle.ot_logic.specs.Naming.{names}
+use Rattle.ot_logic.specs.Trees.{Ty, TyVar, TyOp, NoTys, MoreTys, Tm, App}
+use Rattle.ot_logic.specs.Hol.{same_ty, same_tys, fun_ty, bool_ty}
 use Rattle.ot_laws.proofs.Tests.{tells_names, same_ty-is}
-use Rattle.ot_plain.specs.declared.tree.Ty as types
-use Rattle.ot_plain.specs.declared.tree.Tm as terms
+use Rattle.ot_logic.specs.declared.tree.Ty as types
+use Rattle.ot_logic.specs.declared.tree.Tm as terms
 use Rattle.ot_text.specs.Texts.{name_text, ty_text, spaced_text, tm_text, argument_text, is_function, is_equation}
 use Rattle.ot_text.specs.Pages.{Printed, IsPut}
 use Rattle.ot_text.proofs.Putting.{Puts, puts-more, same-text}
-use Rattle.ot_plain.specs.PlainTrees.{tys_of, type_of_tree, term_of_tree}
+use Rattle.ot_logic.specs.PlainTrees.{tys_of, type_of_tree, term_of_tree}
 use Rattle.ot_parse.specs.Plain.{equality_test, front_text}
 
 -- the text of a plain term

@@ -3,8 +3,8 @@ use Rattle.std.specs.Prelude.{◌≡◌, ◌<◌, ◌+◌, ◌-◌, ◌==◌, �
 use Rattle.std.specs.Prelude.{false, cond, length, List, [], ◌∷◌, ◌++◌, codes, Result, Ok, Err}
 use Rattle.std.proofs.Common.{refl, sym, ◌∙◌, ap, subst, arith, length-append}
 use Rattle.std.proofs.lemmas.Bool.{eqb-true}
-use Rattle.ot_plain.specs.Names.{Name}
-use Rattle.ot_plain.specs.Trees.{Ty, TyVar, TyOp, NoTys, Symbol}
+use Rattle.ot_logic.specs.Names.{Name}
+use Rattle.ot_logic.specs.Trees.{Ty, TyVar, TyOp, NoTys, Symbol}
 use Rattle.ot_forms.specs.Reading.{NoForm, OneTooMany, Reading, Got, Halted, next, mapped, literal_at}
 use Rattle.ot_forms.specs.Reading.{variable_at, operator_at, behind_word_at, closed_type_at, type_at}
 use Rattle.ot_parse.specs.declared.halt.Halt.{Halt}
@@ -15,7 +15,7 @@ use Rattle.ot_parse.specs.declared.types.Front.TheVariants as fronts
 use Rattle.ot_parse.specs.declared.types.Back.{Back}
 use Rattle.ot_parse.specs.declared.types.Back.TheVariants as backs
 use Rattle.ot_parse.specs.Gives.{IsHalt}
-use Rattle.ot_plain.specs.PlainTrees.{type_of_tree}
+use Rattle.ot_logic.specs.PlainTrees.{type_of_tree}
 use Rattle.ot_parse.specs.Frames.{Frame, Range, Argument, frame_of, frames_of, closed}
 use Rattle.ot_parse.specs.Frames.{word_first, after, resume, IsFrontOf, IsLeafOf, IsInside}
 use Rattle.ot_parse.specs.Frames.{IsInsideOf, IsBackOf, IsLeft, GoesOn, IsClosed, IsOn}

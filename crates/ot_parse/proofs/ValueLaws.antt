@@ -7,15 +7,15 @@ use Rattle.std.proofs.Common.{refl, sym, ◌∙◌, ap, arith, get_or}
 use Rattle.std.proofs.Math.Seq.{take-suc}
 use Rattle.std.proofs.lemmas.Bool.Decides.{nat_tests}
 use Rattle.std.proofs.lemmas.List.{take_all}
-use Rattle.ot_plain.specs.Answers.{◌>>=◌}
-use Rattle.ot_plain.specs.Names.{Name}
-use Rattle.ot_plain.specs.Naming.{names}
-use Rattle.ot_plain.specs.Trees.{Ty, TyOp, Tm}
-use Rattle.ot_plain.specs.Trees.{Con, App, Symbol, ConSymbol, OpSymbol}
-use Rattle.ot_plain.specs.Hol.{fun_ty, bool_ty, same_ty, type_in, applied, result_ty, depth_tm, depth_ty}
-use Rattle.ot_plain.specs.Hol.{depth_all, depth_limit, has_shallow_types, is_shallow_ty, is_shallow_type}
-use Rattle.ot_plain.specs.declared.tree.Ty as types
-use Rattle.ot_plain.specs.declared.tree.Tm as terms
+use Rattle.ot_logic.specs.Answers.{◌>>=◌}
+use Rattle.ot_logic.specs.Names.{Name}
+use Rattle.ot_logic.specs.Naming.{names}
+use Rattle.ot_logic.specs.Trees.{Ty, TyOp, Tm}
+use Rattle.ot_logic.specs.Trees.{Con, App, Symbol, ConSymbol, OpSymbol}
+use Rattle.ot_logic.specs.Hol.{fun_ty, bool_ty, same_ty, type_in, applied, result_ty, depth_tm, depth_ty}
+use Rattle.ot_logic.specs.Hol.{depth_all, depth_limit, has_shallow_types, is_shallow_ty, is_shallow_type}
+use Rattle.ot_logic.specs.declared.tree.Ty as types
+use Rattle.ot_logic.specs.declared.tree.Tm as terms
 use Rattle.ot_laws.proofs.Tests.{tells_names, same_ty-is}
 use Rattle.ot_laws.proofs.Typing.{result_ty-fun}
 use Rattle.ot_forms.specs.declared.fault.TextFault.TheVariants.{BadTypes, TooDeep}
@@ -25,7 +25,7 @@ use Rattle.ot_forms.specs.Meaning.{Around, types_around, constant_of, has_type, 
 use Rattle.ot_forms.specs.Meaning.{fits, check, whole, equated, are_alike}
 use Rattle.ot_parse.specs.declared.values.Value.{Value}
 use Rattle.ot_parse.specs.declared.values.Meant.TheVariants as parts
-use Rattle.ot_plain.specs.PlainTrees.{type_of_tree, term_of_tree, tys_of}
+use Rattle.ot_logic.specs.PlainTrees.{type_of_tree, term_of_tree, tys_of}
 use Rattle.ot_parse.specs.Meant.{equal_of, apply_of, relation_of, related_at}
 use Rattle.ot_parse.specs.Values.{IsValue, deeper}
 use Rattle.ot_parse.proofs.Components.{map-push}

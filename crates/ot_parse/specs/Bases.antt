@@ -4,8 +4,8 @@ use Rattle.std.specs.Borrow.{Bor}
 use Rattle.std.specs.HashMap.{HashMap, get_by}
 use Rattle.std.specs.Option.{option_map}
 use Rattle.std.specs.Str.{bytes_eq}
-use Rattle.ot_plain.specs.Names.{Name, same_name}
-use Rattle.ot_plain.specs.Trees.{Symbol, ConSymbol, OpSymbol}
+use Rattle.ot_logic.specs.Names.{Name, same_name}
+use Rattle.ot_logic.specs.Trees.{Symbol, ConSymbol, OpSymbol}
 use Rattle.ot_forms.specs.Words.{is_alike, is_shown, same_symbol, same_kind, same_text, base, symbol_name}
 use Rattle.ot_parse.specs.declared.bases.Holder.{Holder}
 use Rattle.ot_parse.specs.declared.bases.Holder.TheVariants as holders

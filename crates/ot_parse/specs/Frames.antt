@@ -1,10 +1,10 @@
 -- Types that are read with what is open around them kept in a list.
 use Rattle.std.specs.Prelude.{◌≡◌, ◌<◌, ◌≤◌, ◌-◌, ◌+◌, ◌==◌, length, ℕ, suc, Bool, false}
 use Rattle.std.specs.Prelude.{not, List, [], ◌∷◌, ◌++◌, map, codes, Result, Ok, Err}
-use Rattle.ot_plain.specs.Names.{Name}
-use Rattle.ot_plain.specs.Naming.{names}
-use Rattle.ot_plain.specs.Trees.{Ty, Tys, TyOp, MoreTys, Symbol}
-use Rattle.ot_plain.specs.Hol.{fun_ty}
+use Rattle.ot_logic.specs.Names.{Name}
+use Rattle.ot_logic.specs.Naming.{names}
+use Rattle.ot_logic.specs.Trees.{Ty, Tys, TyOp, MoreTys, Symbol}
+use Rattle.ot_logic.specs.Hol.{fun_ty}
 use Rattle.ot_text.specs.Texts.{is_function}
 use Rattle.ot_forms.specs.Reading.{Reading, Got, next, mapped, kept, literal_at, operator_at}
 use Rattle.ot_forms.specs.Reading.{behind_word_at, range_at, further_at, closed_type_at, type_at}
@@ -17,7 +17,7 @@ use Rattle.ot_parse.specs.declared.types.Next.{Next}
 use Rattle.ot_parse.specs.declared.types.Next.TheVariants as nexts
 use Rattle.ot_parse.specs.declared.types.Back.{Back}
 use Rattle.ot_parse.specs.declared.types.Back.TheVariants as backs
-use Rattle.ot_plain.specs.PlainTrees.{type_of_tree}
+use Rattle.ot_logic.specs.PlainTrees.{type_of_tree}
 use Rattle.ot_parse.specs.Gives.{IsHalt}
 
 -- what is open around a type: a function type before its arrow, one behind this domain, an operator behind these

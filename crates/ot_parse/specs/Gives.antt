@@ -1,6 +1,6 @@
 -- How what a function answers stands to the reading of a text.
 use Rattle.std.specs.Prelude.{◌≡◌, ℕ, Bool, true, false, List, [], ◌∷◌, ◌++◌, map, Result, Ok, Err}
-use Rattle.ot_plain.specs.Names.{Name}
+use Rattle.ot_logic.specs.Names.{Name}
 use Rattle.ot_forms.specs.Reading.{Reading, Got, Halted, NoForm, OneTooMany}
 use Rattle.ot_forms.specs.Reading.{mapped, before, bare_at, bare_on, spelled_at}
 use Rattle.ot_parse.specs.declared.halt.Halt.{Halt}

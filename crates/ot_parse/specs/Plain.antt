@@ -1,10 +1,10 @@
 -- What plain trees of the code stand for.
 use Rattle.std.specs.Prelude.{ℕ, Bool, false, cond, List, ◌++◌, map, codes}
-use Rattle.ot_plain.specs.Names.{Name}
-use Rattle.ot_plain.specs.Trees.{Ty, TyOp, NoTys, MoreTys, Tm, App, Sequent}
-use Rattle.ot_plain.specs.Naming.{names}
-use Rattle.ot_plain.specs.Hol.{same_ty, fun_ty, bool_ty}
-use Rattle.ot_plain.specs.PlainTrees.{term_of_tree}
+use Rattle.ot_logic.specs.Names.{Name}
+use Rattle.ot_logic.specs.Trees.{Ty, TyOp, NoTys, MoreTys, Tm, App, Sequent}
+use Rattle.ot_logic.specs.Naming.{names}
+use Rattle.ot_logic.specs.Hol.{same_ty, fun_ty, bool_ty}
+use Rattle.ot_logic.specs.PlainTrees.{term_of_tree}
 use Rattle.ot_text.specs.Texts.{tm_text, argument_text, is_equation}
 use Rattle.ot_parse.specs.declared.readable.Readable.{Readable}
 

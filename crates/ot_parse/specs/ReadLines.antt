@@ -1,12 +1,12 @@
 -- What the functions over whole terms and lines answer.
 use Rattle.std.specs.Prelude.{◌≡◌, ◌⊎◌, ◌+◌, ◌-◌, ℕ, Bool, true, false, Some, None, codes}
 use Rattle.std.specs.Prelude.{List, [], ◌∷◌, ◌++◌, map, length, cond, Result, Ok, Err}
-use Rattle.ot_plain.specs.Answers.{◌>>=◌}
-use Rattle.ot_plain.specs.Names.{Name}
-use Rattle.ot_plain.specs.Naming.{names}
-use Rattle.ot_plain.specs.Trees.{Tm, Sequent, Symbol}
-use Rattle.ot_plain.specs.Hol.{same_tm, once_each}
-use Rattle.ot_plain.specs.declared.memory.Memory.{Memory}
+use Rattle.ot_logic.specs.Answers.{◌>>=◌}
+use Rattle.ot_logic.specs.Names.{Name}
+use Rattle.ot_logic.specs.Naming.{names}
+use Rattle.ot_logic.specs.Trees.{Tm, Sequent, Symbol}
+use Rattle.ot_logic.specs.Hol.{same_tm, once_each}
+use Rattle.ot_logic.specs.declared.memory.Memory.{Memory}
 use Rattle.ot_forms.specs.declared.fault.TextFault.{TextFault}
 use Rattle.ot_forms.specs.declared.fault.TextFault.TheVariants.{Syntax, TooManyOpen}
 use Rattle.ot_forms.specs.Forms.{Written, WrittenSequent}
@@ -22,7 +22,7 @@ use Rattle.ot_parse.specs.declared.reader.Hyps.TheVariants as hyps
 use Rattle.ot_parse.specs.declared.refusal.ReadRefusal.{ReadRefusal}
 use Rattle.ot_parse.specs.declared.refusal.ReadRefusal.TheVariants as refusals
 use Rattle.ot_parse.specs.declared.values.Meant.{Meant as Part}
-use Rattle.ot_plain.specs.PlainTrees.{term_of_tree}
+use Rattle.ot_logic.specs.PlainTrees.{term_of_tree}
 use Rattle.ot_parse.specs.Plain.{sequent_of}
 use Rattle.ot_parse.specs.Symbols.{behind_byte}
 use Rattle.ot_parse.specs.Meant.{Meaning, place_at}

@@ -1,7 +1,7 @@
 -- The refusal of a text, with its column from 1.
 use Rattle.std.specs.Prelude.{◌<◌, ◌-◌, ℕ, List}
-use Rattle.ot_plain.specs.Names.{Name}
-use Rattle.ot_plain.specs.Trees.{Symbol}
+use Rattle.ot_logic.specs.Names.{Name}
+use Rattle.ot_logic.specs.Trees.{Symbol}
 use Rattle.ot_forms.specs.Refusals.{IsRefused, IsTermRefused}
 use Rattle.ot_parse.specs.declared.refusal.ReadRefusal.{ReadRefusal}
 use Rattle.ot_parse.specs.declared.refusal.ReadRefusal.TheVariants as refusals

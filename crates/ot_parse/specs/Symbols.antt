@@ -1,8 +1,8 @@
 -- What a symbol of the code stands for.
 use Rattle.std.specs.Prelude.{ℕ, Bool, true, false, cond, ◌&&◌, List, [], ◌∷◌, ◌++◌, ◌==◌, Option, Some, None}
-use Rattle.ot_plain.specs.Lists.{IsMember}
-use Rattle.ot_plain.specs.Names.{Name, IsName}
-use Rattle.ot_plain.specs.Trees.{Symbol, ConSymbol, OpSymbol}
+use Rattle.ot_logic.specs.Lists.{IsMember}
+use Rattle.ot_logic.specs.Names.{Name, IsName}
+use Rattle.ot_logic.specs.Trees.{Symbol, ConSymbol, OpSymbol}
 use Rattle.ot_forms.specs.Words.{same_kind, same_text, base, symbol_name, is_operator}
 use Rattle.ot_parse.specs.declared.notation.WordKind.{WordKind}
 use Rattle.ot_parse.specs.declared.notation.WordKind.TheVariants as kinds

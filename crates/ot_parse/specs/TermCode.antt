@@ -1,7 +1,7 @@
 -- What the code keeps of terms that are read, and what its answers say.
 use Rattle.std.specs.Prelude.{◌≡◌, ◌≤◌, ◌<◌, ◌+◌, ◌-◌, ℕ, suc, length, List, [], ◌∷◌, ◌++◌, map, Result, Ok, Err}
-use Rattle.ot_plain.specs.Names.{Name}
-use Rattle.ot_plain.specs.Trees.{Symbol}
+use Rattle.ot_logic.specs.Names.{Name}
+use Rattle.ot_logic.specs.Trees.{Symbol}
 use Rattle.ot_forms.specs.Meaning.{Around}
 use Rattle.ot_forms.specs.Refusals.{open_limit}
 use Rattle.ot_forms.specs.Reading.{Reading, Got, next}
@@ -15,7 +15,7 @@ use Rattle.ot_parse.specs.declared.terms.Back.TheVariants as backs
 use Rattle.ot_parse.specs.declared.terms.Next.{Next}
 use Rattle.ot_parse.specs.declared.terms.Next.TheVariants as nexts
 use Rattle.ot_parse.specs.declared.values.Meant.{Meant as Part}
-use Rattle.ot_plain.specs.PlainTrees.{type_of_tree}
+use Rattle.ot_logic.specs.PlainTrees.{type_of_tree}
 use Rattle.ot_parse.specs.Gives.{IsHalt}
 use Rattle.ot_parse.specs.Meant.{Meaning}
 use Rattle.ot_parse.specs.Values.{IsMeant, meant_of}

@@ -1,7 +1,7 @@
 -- Terms that are read with what is open around them kept in a list, together with what they mean.
 use Rattle.std.specs.Prelude.{◌+◌, ◌==◌, ◌||◌, not, ℕ, suc, Bool, true, false, cond, List, [], ◌∷◌, codes}
-use Rattle.ot_plain.specs.Names.{Name}
-use Rattle.ot_plain.specs.Trees.{Ty, Symbol}
+use Rattle.ot_logic.specs.Names.{Name}
+use Rattle.ot_logic.specs.Trees.{Ty, Symbol}
 use Rattle.ot_forms.specs.Words.{is_sign}
 use Rattle.ot_forms.specs.Forms.{Written, FreeAs, ConAs}
 use Rattle.ot_forms.specs.Meaning.{Around, meaning}

@@ -1,16 +1,16 @@
 -- What the code's values stand for, and what is kept of their types.
 use Rattle.std.specs.Prelude.{◌≡◌, ℕ, suc, max, min, Bool, false}
 use Rattle.std.specs.Prelude.{slice_get, Option, Some, None, Result, Ok, Err}
-use Rattle.ot_plain.specs.Names.{Name}
-use Rattle.ot_plain.specs.Naming.{names}
-use Rattle.ot_plain.specs.Trees.{Ty, Tm, App}
-use Rattle.ot_plain.specs.Hol.{type_in, depth_ty, depth_tm, depth_limit, has_shallow_types}
-use Rattle.ot_plain.specs.declared.memory.Memory.{Memory}
+use Rattle.ot_logic.specs.Names.{Name}
+use Rattle.ot_logic.specs.Naming.{names}
+use Rattle.ot_logic.specs.Trees.{Ty, Tm, App}
+use Rattle.ot_logic.specs.Hol.{type_in, depth_ty, depth_tm, depth_limit, has_shallow_types}
+use Rattle.ot_logic.specs.declared.memory.Memory.{Memory}
 use Rattle.ot_forms.specs.Meaning.{Around, types_around, is_typed}
 use Rattle.ot_parse.specs.declared.values.Value.{Value}
 use Rattle.ot_parse.specs.declared.values.Meant.{Meant as Part}
 use Rattle.ot_parse.specs.declared.values.Meant.TheVariants as parts
-use Rattle.ot_plain.specs.PlainTrees.{type_of_tree, term_of_tree}
+use Rattle.ot_logic.specs.PlainTrees.{type_of_tree, term_of_tree}
 use Rattle.ot_parse.specs.Meant.{Meaning, wholly}
 
 -- the depth over two parts, no more than one past the nesting limit

@@ -2,8 +2,8 @@
 ghost use Rattle.std.specs.Prelude.{◌≡◌, ℕ, List, [], None, map, IfOk, OnOk};
 ghost use Rattle.std.specs.List.{list_all};
 ghost use Rattle.std.specs.Option.{option_map};
-ghost use Rattle.ot_plain.specs.Names.{Name as NameValue};
-ghost use Rattle.ot_plain.specs.Trees.{Symbol};
+ghost use Rattle.ot_logic.specs.Names.{Name as NameValue};
+ghost use Rattle.ot_logic.specs.Trees.{Symbol};
 ghost use Rattle.ot_forms.specs.Words.{base};
 ghost use Rattle.ot_parse.specs.Symbols.{symbol_of};
 ghost use Rattle.ot_parse.specs.Bases.{AreBases, holder_of, holder_with, holders_among};
@@ -11,7 +11,7 @@ ghost use Rattle.ot_parse.specs.Bases.{is_no_rival, is_sole as sole_test, one_mo
 
 use crate::names::base_of;
 use crate::notation::{WordKind, is_one_kind, is_shown};
-use ot_plain::{Memory, Name};
+use ot_logic::{Memory, Name};
 use std::alloc::Global;
 use std::collections::HashMap;
 

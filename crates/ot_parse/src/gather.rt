@@ -2,10 +2,10 @@
 ghost use Rattle.std.specs.Prelude.{◌≡◌, ◌<◌, map, IfOk, Err};
 ghost use Rattle.ot_text.specs.Texts.{ascending, tm_text};
 ghost use Rattle.ot_text.specs.Gathered.{texts_of, bytes_in};
-ghost use Rattle.ot_plain.specs.PlainTrees.{term_of_tree};
+ghost use Rattle.ot_logic.specs.PlainTrees.{term_of_tree};
 
 use crate::plain::append;
-use ot_plain::Tm;
+use ot_logic::Tm;
 use ot_text::{PrintFault, add_text};
 use std::alloc::Global;
 use std::collections::BTreeSet;

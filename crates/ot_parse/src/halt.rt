@@ -1,7 +1,7 @@
 ghost use Rattle.std.specs.Prelude.{◌≡◌};
 ghost use Rattle.ot_parse.specs.declared.halt.Halt.TheVariants.{Memory as OutOfMemory};
 
-use ot_plain::Memory;
+use ot_logic::Memory;
 use std::alloc::{AllocError, AllocFailed};
 
 /// Why reading stops, with the bytes from there on.

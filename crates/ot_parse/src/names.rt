@@ -1,11 +1,11 @@
 //! Names by their components.
 ghost use Rattle.std.specs.Prelude.{◌≡◌, map, IfOk};
 ghost use Rattle.std.specs.List.{list_all};
-ghost use Rattle.ot_plain.specs.Names.{same_name};
+ghost use Rattle.ot_logic.specs.Names.{same_name};
 ghost use Rattle.ot_forms.specs.Words.{base, namespace, is_part as part_test, is_bare as bare_test};
 
 use crate::words::is_part;
-use ot_plain::Name;
+use ot_logic::Name;
 use std::alloc::{AllocError, Global};
 
 /// A name equal to this one. It fails only where memory runs out.

@@ -2,8 +2,8 @@
 ghost use Rattle.std.specs.Prelude.{◌≡◌, ◌&&◌, [], true, not, map, List, IfOk, OnOk};
 ghost use Rattle.std.specs.Option.{option_map};
 ghost use Rattle.std.specs.List.{list_any};
-ghost use Rattle.ot_plain.specs.Names.{Name as NameValue, same_name, IsName};
-ghost use Rattle.ot_plain.specs.Trees.{Symbol};
+ghost use Rattle.ot_logic.specs.Names.{Name as NameValue, same_name, IsName};
+ghost use Rattle.ot_logic.specs.Trees.{Symbol};
 ghost use Rattle.ot_forms.specs.Words.{IsNotation, hidden_symbols, is_hidden_in as hidden_test};
 ghost use Rattle.ot_forms.specs.Words.{is_short as short_test, namespace, is_hidden as hidden_now};
 ghost use Rattle.ot_forms.specs.Words.{is_taken, is_bare as bare_test, dotted, same_symbol};
@@ -15,7 +15,7 @@ ghost use Rattle.ot_parse.specs.Symbols.{has_base as has_base_test, operator_bas
 use crate::bases::Bases;
 use crate::names::{are_same, base_of, copy_name, is_bare, namespace_of};
 use crate::words::{is_operator, is_part, is_same};
-use ot_plain::{Memory, Name};
+use ot_logic::{Memory, Name};
 use std::alloc::{AllocError, Global};
 use std::marker::Model;
 
@@ -36,8 +36,8 @@ pub struct Notation {
 
 impl Model for Notation {
     ghost use Rattle.std.specs.Prelude.{map, List};
-    ghost use Rattle.ot_plain.specs.Names.{Name};
-    ghost use Rattle.ot_plain.specs.Trees.{Symbol};
+    ghost use Rattle.ot_logic.specs.Names.{Name};
+    ghost use Rattle.ot_logic.specs.Trees.{Symbol};
     ghost use Rattle.ot_forms.specs.Words.{IsNotation};
     ghost use Rattle.ot_parse.specs.Symbols.{symbol_of};
 

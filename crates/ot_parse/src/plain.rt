@@ -1,19 +1,19 @@
 //! The printed text of a sequent that was read.
 ghost use Rattle.std.specs.Prelude.{◌≡◌, ◌<◌, ◌++◌, codes, map, length, OnOk, OnErr, Err};
-ghost use Rattle.ot_plain.specs.Naming.{names};
-ghost use Rattle.ot_plain.specs.Names.{Name as NameValue};
-ghost use Rattle.ot_plain.specs.Trees.{TyOp, App, Tm as TermTree};
+ghost use Rattle.ot_logic.specs.Naming.{names};
+ghost use Rattle.ot_logic.specs.Names.{Name as NameValue};
+ghost use Rattle.ot_logic.specs.Trees.{TyOp, App, Tm as TermTree};
 ghost use Rattle.ot_text.specs.Texts.{name_text, ty_text, spaced_text, tm_text};
 ghost use Rattle.ot_text.specs.Texts.{argument_text, hyps_text, sequent_text, is_equation};
 ghost use Rattle.ot_text.specs.Gathered.{texts_of};
 ghost use Rattle.ot_text.specs.Pages.{IsPut, printed, Appended};
-ghost use Rattle.ot_plain.specs.PlainTrees.{type_of_tree, tys_of, term_of_tree};
+ghost use Rattle.ot_logic.specs.PlainTrees.{type_of_tree, tys_of, term_of_tree};
 ghost use Rattle.ot_parse.specs.Plain.{sequent_of, equality_test, front_text};
 
 use crate::gather::gathered;
 use crate::readable::Readable;
 use crate::trees::{function_parts, is_arrow, is_bool, is_text, same_type};
-use ot_plain::{Name, Tm, Ty};
+use ot_logic::{Name, Tm, Ty};
 use ot_text::{Page, PrintFault, put_hyps};
 use std::alloc::Global;
 use std::collections::BTreeSet;
@@ -80,7 +80,7 @@ pub(crate) fn append(
 
 /// A term.
 #[cycle(terms)]
-#[tactic(auto, using(ot_plain::proofs::PlainTrees::term_Free, ot_plain::proofs::PlainTrees::term_Con, ot_plain::proofs::PlainTrees::term_Bound, ot_plain::proofs::PlainTrees::term_App, ot_plain::proofs::PlainTrees::term_Abs))]
+#[tactic(auto, using(ot_logic::proofs::PlainTrees::term_Free, ot_logic::proofs::PlainTrees::term_Con, ot_logic::proofs::PlainTrees::term_Bound, ot_logic::proofs::PlainTrees::term_App, ot_logic::proofs::PlainTrees::term_Abs))]
 fn put_term(page: &mut Page, term: &Tm)
     ensures { IsPut (tm_text (term_of_tree term.now)) (printed page.old) (printed page.new) }
 {
@@ -127,7 +127,7 @@ fn put_front(page: &mut Page, f: &Tm)
 
 /// What a function was applied to.
 #[cycle(terms)]
-#[tactic(auto, using(ot_plain::proofs::PlainTrees::term_Free, ot_plain::proofs::PlainTrees::term_Con, ot_plain::proofs::PlainTrees::term_Bound, ot_plain::proofs::PlainTrees::term_App, ot_plain::proofs::PlainTrees::term_Abs, ot_text::proofs::Putting::nothing))]
+#[tactic(auto, using(ot_logic::proofs::PlainTrees::term_Free, ot_logic::proofs::PlainTrees::term_Con, ot_logic::proofs::PlainTrees::term_Bound, ot_logic::proofs::PlainTrees::term_App, ot_logic::proofs::PlainTrees::term_Abs, ot_text::proofs::Putting::nothing))]
 fn put_argument(page: &mut Page, f: &Tm)
     ensures { IsPut (argument_text (term_of_tree f.now)) (printed page.old) (printed page.new) }
 {
@@ -141,7 +141,7 @@ fn put_argument(page: &mut Page, f: &Tm)
 }
 
 /// Whether a function makes an equation of a further argument.
-#[tactic(auto, using(ot_plain::proofs::PlainTrees::term_Free, ot_plain::proofs::PlainTrees::term_Con, ot_plain::proofs::PlainTrees::term_Bound, ot_plain::proofs::PlainTrees::term_App, ot_plain::proofs::PlainTrees::term_Abs))]
+#[tactic(auto, using(ot_logic::proofs::PlainTrees::term_Free, ot_logic::proofs::PlainTrees::term_Con, ot_logic::proofs::PlainTrees::term_Bound, ot_logic::proofs::PlainTrees::term_App, ot_logic::proofs::PlainTrees::term_Abs))]
 fn is_half_equation(f: &Tm) -> bool
     ensures { (x : TermTree NameValue) → is_equation names (App (term_of_tree f.now) x) ≡ result }
 {
@@ -155,7 +155,7 @@ fn is_half_equation(f: &Tm) -> bool
 }
 
 /// Whether a term is `=` at a type a -> (a -> bool).
-#[tactic(auto, using(ot_plain::proofs::PlainTrees::term_Free, ot_plain::proofs::PlainTrees::term_Con, ot_plain::proofs::PlainTrees::term_Bound, ot_plain::proofs::PlainTrees::term_App, ot_plain::proofs::PlainTrees::term_Abs))]
+#[tactic(auto, using(ot_logic::proofs::PlainTrees::term_Free, ot_logic::proofs::PlainTrees::term_Con, ot_logic::proofs::PlainTrees::term_Bound, ot_logic::proofs::PlainTrees::term_App, ot_logic::proofs::PlainTrees::term_Abs))]
 fn is_equality(head: &Tm) -> bool
     ensures { (a b : TermTree NameValue) → is_equation names (App (App (term_of_tree head.now) a) b) ≡ result }
 {

@@ -1,4 +1,4 @@
-use ot_plain::Tm;
+use ot_logic::Tm;
 
 /// A sequent that was read: its hypotheses, each once, and its conclusion.
 #[derive(Drop)]

@@ -1,7 +1,7 @@
 //! Sequents and terms that are read from readable text.
 ghost use Rattle.std.specs.Prelude.{◌≡◌, ◌≤◌, map, length, IfOk, IfErr};
 ghost use Rattle.ot_forms.specs.Refusals.{ReadsAs, ReadsAsTerm};
-ghost use Rattle.ot_plain.specs.PlainTrees.{term_of_tree};
+ghost use Rattle.ot_logic.specs.PlainTrees.{term_of_tree};
 ghost use Rattle.ot_parse.specs.Plain.{sequent_of};
 ghost use Rattle.ot_parse.specs.Refused.{IsRefusal, IsTermRefusal};
 ghost use Rattle.ot_forms.specs.Meaning.{meanings};
@@ -22,7 +22,7 @@ use crate::terms::{place_of, read_part};
 use crate::trees::same_term;
 use crate::values::{Meant, whole};
 use ot_forms::TextFault;
-use ot_plain::{Memory, Tm};
+use ot_logic::{Memory, Tm};
 use std::alloc::Global;
 
 /// The sequent that a line stands for under this notation: its hypotheses, each once, and its conclusion.

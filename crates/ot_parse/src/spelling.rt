@@ -1,6 +1,6 @@
 //! Names in a text: bare words and spellings.
 ghost use Rattle.std.specs.Prelude.{◌≡◌, ◌<◌, ℕ, [], ◌∷◌, List, length, true, false, not, IfOk, OnOk, codes};
-ghost use Rattle.ot_plain.specs.Names.{Name as NameValue};
+ghost use Rattle.ot_logic.specs.Names.{Name as NameValue};
 ghost use Rattle.ot_forms.specs.Words.{is_bare as bare_test};
 ghost use Rattle.ot_forms.specs.Reading.{before, literal_at, is_special as special_test, bare_at};
 ghost use Rattle.ot_forms.specs.Reading.{bare_on, spelled_at, escaped_at, quoted_at, variable_at};
@@ -10,7 +10,7 @@ ghost use Rattle.ot_parse.specs.Pieces.{IsShorter};
 use crate::halt::Halt;
 use crate::names::is_bare;
 use crate::words::{is_inner, is_letter};
-use ot_plain::Name;
+use ot_logic::Name;
 use std::alloc::{AllocError, Global};
 
 /// The next piece of a name.

@@ -12,7 +12,7 @@ use crate::names::copy_name;
 use crate::notation::{Notation, WordKind};
 use crate::spelling::{bare, literal, spelled};
 use crate::words::is_sign;
-use ot_plain::Name;
+use ot_logic::Name;
 use std::alloc::{AllocError, Global};
 
 /// The type operator whose word stands at the front, and the bytes behind it.

@@ -1,14 +1,14 @@
 //! Terms in a text, with what is open around them kept in a list.
 ghost use Rattle.std.specs.Prelude.{◌≡◌, ◌≤◌, ◌<◌, ◌+◌, ◌-◌, ◌==◌, ◌||◌, ℕ, suc};
 ghost use Rattle.std.specs.Prelude.{List, [], ◌∷◌, length, IfOk, IfNone, IfSome};
-ghost use Rattle.ot_plain.specs.Names.{Name as NameValue};
-ghost use Rattle.ot_plain.specs.Trees.{Symbol};
+ghost use Rattle.ot_logic.specs.Names.{Name as NameValue};
+ghost use Rattle.ot_logic.specs.Trees.{Symbol};
 ghost use Rattle.ot_forms.specs.Forms.{FreeAs, ConAs};
 ghost use Rattle.ot_forms.specs.Meaning.{Around};
 ghost use Rattle.ot_forms.specs.Refusals.{open_limit};
 ghost use Rattle.ot_forms.specs.Reading.{Got, mapped, part_at, first_part, is_single as single_test};
 ghost use Rattle.ot_parse.specs.Gives.{Gives};
-ghost use Rattle.ot_plain.specs.PlainTrees.{type_of_tree};
+ghost use Rattle.ot_logic.specs.PlainTrees.{type_of_tree};
 ghost use Rattle.ot_parse.specs.Meant.{place_at, raw, bound_of, is_relation as relation_test};
 ghost use Rattle.ot_parse.specs.Meant.{sides_of as sides_meaning};
 ghost use Rattle.ot_parse.specs.Values.{IsMeant, IsMade, meant_of};
@@ -31,7 +31,7 @@ use crate::values::{
 };
 use crate::words::{is_same, is_sign};
 use ot_forms::TextFault;
-use ot_plain::{Memory, Name, Ty};
+use ot_logic::{Memory, Name, Ty};
 use std::alloc::Global;
 
 /// How many parentheses and braces may be open.

@@ -1,14 +1,14 @@
 //! Plain types: their parts, and whether two are one.
 ghost use Rattle.std.specs.Prelude.{◌≡◌, [], ◌∷◌, map, length, true, false, IfNone, IfSome};
 ghost use Rattle.ot_text.specs.Texts.{is_function};
-ghost use Rattle.ot_plain.specs.Naming.{names};
-ghost use Rattle.ot_plain.specs.Trees.{TyOp};
-ghost use Rattle.ot_plain.specs.Hol.{same_ty, same_tys, same_tm, fun_ty, bool_ty};
-ghost use Rattle.ot_plain.specs.Names.{same_name};
-ghost use Rattle.ot_plain.specs.PlainTrees.{type_of_tree, tys_of, term_of_tree};
+ghost use Rattle.ot_logic.specs.Naming.{names};
+ghost use Rattle.ot_logic.specs.Trees.{TyOp};
+ghost use Rattle.ot_logic.specs.Hol.{same_ty, same_tys, same_tm, fun_ty, bool_ty};
+ghost use Rattle.ot_logic.specs.Names.{same_name};
+ghost use Rattle.ot_logic.specs.PlainTrees.{type_of_tree, tys_of, term_of_tree};
 
 use crate::words::is_same;
-use ot_plain::{Name, Tm, Ty};
+use ot_logic::{Name, Tm, Ty};
 
 /// Whether a name has this one component.
 pub(crate) fn is_text(name: &Name, text: &[u8]) -> bool
@@ -22,7 +22,7 @@ pub(crate) fn is_text(name: &Name, text: &[u8]) -> bool
 
 /// Whether two types are one.
 #[cycle(same)]
-#[tactic(auto, using(ot_plain::proofs::PlainTrees::type_Var, ot_plain::proofs::PlainTrees::type_Op))]
+#[tactic(auto, using(ot_logic::proofs::PlainTrees::type_Var, ot_logic::proofs::PlainTrees::type_Op))]
 pub(crate) fn same_type(left: &Ty, right: &Ty) -> bool
     ensures { result ≡ same_ty names (type_of_tree left.now) (type_of_tree right.now) }
 {
@@ -51,7 +51,7 @@ fn same_types(left: &Vec<Ty>, right: &Vec<Ty>) -> bool
 }
 
 /// Whether a type is that of propositions.
-#[tactic(auto, using(ot_plain::proofs::PlainTrees::type_Var, ot_plain::proofs::PlainTrees::type_Op))]
+#[tactic(auto, using(ot_logic::proofs::PlainTrees::type_Var, ot_logic::proofs::PlainTrees::type_Op))]
 pub(crate) fn is_bool(ty: &Ty) -> bool
     ensures { result ≡ same_ty names (type_of_tree ty.now) (bool_ty names) }
 {
@@ -93,7 +93,7 @@ pub(crate) fn is_arrow(name: &Name, args: &Vec<Ty>) -> bool
 }
 
 /// Whether two terms are one.
-#[tactic(auto, using(ot_plain::proofs::PlainTrees::term_Free, ot_plain::proofs::PlainTrees::term_Con, ot_plain::proofs::PlainTrees::term_Bound, ot_plain::proofs::PlainTrees::term_App, ot_plain::proofs::PlainTrees::term_Abs))]
+#[tactic(auto, using(ot_logic::proofs::PlainTrees::term_Free, ot_logic::proofs::PlainTrees::term_Con, ot_logic::proofs::PlainTrees::term_Bound, ot_logic::proofs::PlainTrees::term_App, ot_logic::proofs::PlainTrees::term_Abs))]
 pub(crate) fn same_term(left: &Tm, right: &Tm) -> bool
     ensures { result ≡ same_tm names (term_of_tree left.now) (term_of_tree right.now) }
 {

@@ -1,13 +1,13 @@
 //! Types in a text, with what is open around them kept in a list.
 ghost use Rattle.std.specs.Prelude.{◌≡◌, ◌≤◌, length, ◌==◌, ◌||◌, ℕ, false, IfNone};
 ghost use Rattle.std.specs.Prelude.{IfSome, List, ◌++◌, ◌∷◌, [], IfOk, map};
-ghost use Rattle.ot_plain.specs.Names.{Name as NameValue};
-ghost use Rattle.ot_plain.specs.Trees.{Ty as TypeTree, TyVar, TyOp, NoTys};
-ghost use Rattle.ot_plain.specs.Naming.{names};
-ghost use Rattle.ot_plain.specs.Hol.{fun_ty};
+ghost use Rattle.ot_logic.specs.Names.{Name as NameValue};
+ghost use Rattle.ot_logic.specs.Trees.{Ty as TypeTree, TyVar, TyOp, NoTys};
+ghost use Rattle.ot_logic.specs.Naming.{names};
+ghost use Rattle.ot_logic.specs.Hol.{fun_ty};
 ghost use Rattle.ot_forms.specs.Reading.{Got, mapped, variable_at, operator_at, behind_word_at, further_at, type_at};
 ghost use Rattle.ot_parse.specs.Gives.{Gives};
-ghost use Rattle.ot_plain.specs.PlainTrees.{type_of_tree};
+ghost use Rattle.ot_logic.specs.PlainTrees.{type_of_tree};
 ghost use Rattle.ot_parse.specs.Frames.{Domain, Range, Argument, frame_of, frames_of, closed, word_first, is_spaced};
 ghost use Rattle.ot_parse.specs.Frames.{IsFrontOf, IsLeafOf, IsInside, IsInsideOf, IsBackOf, IsClosed, IsOn, IsNext};
 
@@ -16,7 +16,7 @@ use crate::notation::Notation;
 use crate::spelling::{literal, variable_word};
 use crate::symbols::operator_word;
 use crate::trees::is_arrow;
-use ot_plain::{Name, Ty};
+use ot_logic::{Name, Ty};
 use std::alloc::{AllocError, Global};
 
 /// What is open around a type that is read next.

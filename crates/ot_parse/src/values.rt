@@ -1,13 +1,13 @@
 //! Nameless terms in the making, with their types, and what is wrong with a part that has none.
 ghost use Rattle.std.specs.Prelude.{◌≡◌, ◌≤◌, ℕ, suc, min, List, ◌∷◌, IfOk, Ok};
 ghost use Rattle.std.specs.Option.{option_map};
-ghost use Rattle.ot_plain.specs.Naming.{names};
-ghost use Rattle.ot_plain.specs.Names.{Name as NameValue};
-ghost use Rattle.ot_plain.specs.Trees.{Ty as TypeTree, Free as FreeTree, Con as ConTree};
-ghost use Rattle.ot_plain.specs.Trees.{Bound as BoundTree, App as AppTree, Abs as AbsTree};
-ghost use Rattle.ot_plain.specs.Hol.{bool_ty, result_ty, depth_ty, depth_limit};
+ghost use Rattle.ot_logic.specs.Naming.{names};
+ghost use Rattle.ot_logic.specs.Names.{Name as NameValue};
+ghost use Rattle.ot_logic.specs.Trees.{Ty as TypeTree, Free as FreeTree, Con as ConTree};
+ghost use Rattle.ot_logic.specs.Trees.{Bound as BoundTree, App as AppTree, Abs as AbsTree};
+ghost use Rattle.ot_logic.specs.Hol.{bool_ty, result_ty, depth_ty, depth_limit};
 ghost use Rattle.ot_forms.specs.Meaning.{Around, fits as fits_test};
-ghost use Rattle.ot_plain.specs.PlainTrees.{type_of_tree, term_of_tree};
+ghost use Rattle.ot_logic.specs.PlainTrees.{type_of_tree, term_of_tree};
 ghost use Rattle.ot_parse.specs.Meant.{equal_of, infix_of, apply_of};
 ghost use Rattle.ot_parse.specs.Meant.{abstracted as abstracted_value, relation_of, related_at};
 ghost use Rattle.ot_parse.specs.Values.{IsValue, IsBoundTo, IsMeant, meant_of, deeper};
@@ -18,7 +18,7 @@ use crate::notation::{Notation, WordKind};
 use crate::trees::{is_arrow, is_bool, same_type};
 use crate::types::function_type;
 use ot_forms::TextFault;
-use ot_plain::{DEPTH_LIMIT, Memory, Name, Tm, Ty};
+use ot_logic::{DEPTH_LIMIT, Memory, Name, Tm, Ty};
 use std::alloc::{AllocError, Global};
 
 /// A nameless term with its type.
@@ -128,7 +128,7 @@ pub(crate) fn copy_type(alloc: Global, ty: &Ty) -> Result<Ty, AllocError>
 }
 
 /// The depth of a type, or one past this limit.
-#[tactic(auto, using(ot_plain::proofs::PlainTrees::type_Var, ot_plain::proofs::PlainTrees::type_Op))]
+#[tactic(auto, using(ot_logic::proofs::PlainTrees::type_Var, ot_logic::proofs::PlainTrees::type_Op))]
 fn type_depth(ty: &Ty, limit: u64) -> u64
     requires { limit ≤ depth_limit }
     ensures { result ≡ min (depth_ty names (type_of_tree ty.now)) (suc limit) }

@@ -4,15 +4,15 @@ use Rattle.std.specs.Prelude.{not, ◌&&◌, List, [], ◌∷◌, ◌++◌, map,
 use Rattle.std.specs.Global.{Vec}
 use Rattle.std.proofs.Common.{refl, sym, ◌∙◌, ap, append-nil, drop, get_or}
 use Rattle.std.proofs.Math.ListN.{drop_of_length-le}
-use Rattle.ot_plain.specs.Names.{Name, spelled}
-use Rattle.ot_plain.specs.Trees.{Symbol}
+use Rattle.ot_logic.specs.Names.{Name, spelled}
+use Rattle.ot_logic.specs.Trees.{Symbol}
 use Rattle.ot_forms.specs.Words.{is_hidden, is_taken, is_bare, dotted, base, symbol_name, word}
 use Rattle.ot_forms.specs.Reading.{is_spelled}
 use Rattle.ot_text.specs.Separated.{separator}
 use Rattle.ot_parse.specs.declared.notation.WordKind.{WordKind}
 use Rattle.ot_parse.specs.Symbols.{symbol_of}
 use Rattle.ot_parse.proofs.Lookups.{name-of}
-use Rattle.ot_plain.proofs.Elements.{drop-item}
+use Rattle.ot_logic.proofs.Elements.{drop-item}
 
 -- ---- the word of a symbol, by its kind and its name
 

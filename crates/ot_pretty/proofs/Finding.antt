@@ -8,12 +8,13 @@ use Rattle.indexmap.specs.IndexSet.{insert_key}
 use Rattle.std.proofs.Common.{refl, sym, ap, ◌∙◌, subst, inl, inr, arith, append_assoc, append-nil}
 use Rattle.std.proofs.lemmas.List.{map-append}
 use Rattle.std.proofs.lemmas.List.Elements.{All-head, All-tail}
-use Rattle.ot_plain.specs.Hol.{symbols_ty, symbols_tm, symbols_all, ops_all, ops_ty, nameless}
-use Rattle.ot_plain.specs.Lists.{IsMember, IsPart, IsSameSet, AreDistinct}
-use Rattle.ot_plain.specs.Names.{Name}
-use Rattle.ot_plain.specs.Naming.{names, IsNameTable}
-use Rattle.ot_plain.specs.Trees.{Ty, TyVar, TyOp, NVar, NConst, NApp, NAbs, Variable, Symbol, ConSymbol, OpSymbol}
-use Rattle.ot_plain.proofs.Naming.{name_of-injective}
+use Rattle.ot_logic.specs.Hol.{symbols_ty, symbols_tm, symbols_all, ops_all, ops_ty}
+use Rattle.ot_logic.specs.NamedTerms.{nameless}
+use Rattle.ot_logic.specs.Lists.{IsMember, IsPart, IsSameSet, AreDistinct}
+use Rattle.ot_logic.specs.Names.{Name}
+use Rattle.ot_logic.specs.Naming.{names, IsNameTable}
+use Rattle.ot_logic.specs.Trees.{Ty, TyVar, TyOp, NVar, NConst, NApp, NAbs, Variable, Symbol, ConSymbol, OpSymbol}
+use Rattle.ot_logic.proofs.Naming.{name_of-injective}
 use Rattle.ot_laws.proofs.Sets.{same_set-self, same_set-then, same_set-append, same_set-swap}
 use Rattle.ot_laws.proofs.Symbols.{symbols-abs}
 use Rattle.ot_laws.proofs.Tests.{tells_names}
@@ -31,8 +32,8 @@ use Rattle.ot_pretty.specs.Run.{named_symbol, symbol_named}
 use Rattle.ot_pretty.specs.Found.{type_symbols, term_symbols, symbols_with, IsSearch, Finds}
 use Rattle.ot_pretty.specs.Found.{Reaches, AddsSymbol, AddsType, AddsTerm, AddsTypes}
 use Rattle.ot_pretty.proofs.Roots.{take-item}
-use Rattle.ot_plain.proofs.Members.{IsMember-flat_map, IsMember-flat_map_back}
-use Rattle.ot_plain.proofs.Members.{IsMember-last, IsMember-left, IsMember-map_back, IsMember-push, All-at_member}
+use Rattle.ot_logic.proofs.Members.{IsMember-flat_map, IsMember-flat_map_back}
+use Rattle.ot_logic.proofs.Members.{IsMember-last, IsMember-left, IsMember-map_back, IsMember-push, All-at_member}
 
 -- ---- sets
 same-list : {X : Type 0} {xs ys : List X} → xs ≡ ys → IsSameSet xs ys

@@ -1,8 +1,8 @@
 -- How many bytes the hypotheses of a sequent have.
 use Rattle.std.specs.Prelude.{◌≡◌, ℕ, suc, ◌+◌, ◌<◌, ◌≤◌, List, [], ◌∷◌, ◌++◌, map, length, codes}
 use Rattle.std.proofs.Common.{ap, arith, length-append}
-use Rattle.ot_plain.specs.Names.{Name}
-use Rattle.ot_plain.specs.Trees.{Sequent, Symbol}
+use Rattle.ot_logic.specs.Names.{Name}
+use Rattle.ot_logic.specs.Trees.{Sequent, Symbol}
 use Rattle.ot_forms.specs.Printing.{readable_term, readable_text}
 use Rattle.ot_text.specs.Texts.{ascending, further_hyps, hyps_text}
 use Rattle.ot_text.specs.Gathered.{bytes_in}

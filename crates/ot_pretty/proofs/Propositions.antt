@@ -3,15 +3,16 @@ use Rattle.std.specs.Prelude.{◌≡◌, ℕ, ◌<◌, ◌≤◌, true, List, []
 use Rattle.std.specs.List.{All}
 use Rattle.std.proofs.Common.{sym, ap, ◌∙◌, subst, arith}
 use Rattle.std.proofs.lemmas.Option.{slice_get-get_or}
-use Rattle.ot_plain.specs.Bounds.{bound_ty, bound_tys, bound_named}
-use Rattle.ot_plain.specs.Hol.{bool_ty, HasType, IsSequent, is_shallow, nameless, nameless_in, at_place, place}
-use Rattle.ot_plain.specs.Lists.{IsMember}
-use Rattle.ot_plain.specs.Names.{Name, IsName}
-use Rattle.ot_plain.specs.Naming.{names, numbers, name_of, IsNameTable}
-use Rattle.ot_plain.specs.Renamed.{map_ty, map_tys, map_variable, map_named}
-use Rattle.ot_plain.specs.Trees.{Ty, Tys, TyVar, TyOp, NoTys, MoreTys, Variable}
-use Rattle.ot_plain.specs.Trees.{Named, NVar, NConst, NApp, NAbs, Sequent}
-use Rattle.ot_plain.proofs.Naming.{naming}
+use Rattle.ot_logic.specs.Bounds.{bound_ty, bound_tys, bound_named}
+use Rattle.ot_logic.specs.Hol.{bool_ty, HasType, IsSequent, is_shallow}
+use Rattle.ot_logic.specs.NamedTerms.{nameless, nameless_in, at_place, place}
+use Rattle.ot_logic.specs.Lists.{IsMember}
+use Rattle.ot_logic.specs.Names.{Name, IsName}
+use Rattle.ot_logic.specs.Naming.{names, numbers, name_of, IsNameTable}
+use Rattle.ot_logic.specs.Renamed.{map_ty, map_tys, map_variable, map_named}
+use Rattle.ot_logic.specs.Trees.{Ty, Tys, TyVar, TyOp, NoTys, MoreTys, Variable}
+use Rattle.ot_logic.specs.Trees.{Named, NVar, NConst, NApp, NAbs, Sequent}
+use Rattle.ot_logic.proofs.Naming.{naming}
 use Rattle.ot_laws.proofs.Named.{nameless_in-nil}
 use Rattle.ot_laws.proofs.Sets.{all-member}
 use Rattle.ot_laws.proofs.Tests.{tells_names}
@@ -24,7 +25,7 @@ use Rattle.ot_kernel.proofs.Namings.{bound_named-get}
 use Rattle.ot_forms.specs.Forms.{HasNames, HaveNames, HaveTermNames}
 use Rattle.ot_forms.specs.Laws.{IsProposition, ArePropositions}
 use Rattle.ot_view.proofs.Spelled.{name_is, term_is, term_inside, lettered}
-use Rattle.ot_plain.proofs.Members.{IsMember-map_back, All-at_member}
+use Rattle.ot_logic.proofs.Members.{IsMember-map_back, All-at_member}
 
 module _ (s : State) (t : TermTable) (k : IsSpelled s t) (table : IsNameTable s.names) where
   abbrev f : ℕ → Name

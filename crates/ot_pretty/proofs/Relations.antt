@@ -2,12 +2,13 @@
 use Rattle.std.specs.Prelude.{◌≡◌, ℕ, ◌<◌, nat_eq, Bool, true, false, ◌&&◌, List}
 use Rattle.std.specs.Prelude.{[], ◌∷◌, length, is_some, Option, Some, None}
 use Rattle.std.proofs.Common.{refl, sym, ◌∙◌, ap, arith}
-use Rattle.ot_plain.specs.Names.{Name}
-use Rattle.ot_plain.specs.Naming.{names, numbers, name_of, IsNameTable}
-use Rattle.ot_plain.specs.Trees.{Ty, TyVar, TyOp, Tm, App, Variable, Named, NVar, NConst, NApp, NAbs, Symbol}
-use Rattle.ot_plain.specs.Hol.{fun_ty, bool_ty, same_ty, nameless_in, at_place, place}
-use Rattle.ot_plain.proofs.Line.{IsLettering}
-use Rattle.ot_plain.proofs.Naming.{lettering}
+use Rattle.ot_logic.specs.Names.{Name}
+use Rattle.ot_logic.specs.Naming.{names, numbers, name_of, IsNameTable}
+use Rattle.ot_logic.specs.Trees.{Ty, TyVar, TyOp, Tm, App, Variable, Named, NVar, NConst, NApp, NAbs, Symbol}
+use Rattle.ot_logic.specs.Hol.{fun_ty, bool_ty, same_ty}
+use Rattle.ot_logic.specs.NamedTerms.{nameless_in, at_place, place}
+use Rattle.ot_logic.proofs.Line.{IsLettering}
+use Rattle.ot_logic.proofs.Naming.{lettering}
 use Rattle.ot_laws.proofs.Tests.{tells_names, same_ty-is}
 use Rattle.ot_laws.proofs.Typing.{as_fun_ty-fun}
 use Rattle.ot_kernel.specs.State.{State, name_at, types_at}

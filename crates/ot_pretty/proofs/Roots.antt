@@ -6,11 +6,11 @@ use Rattle.std.proofs.Common.{refl, sym, ap, ◌∙◌, subst, arith, append_ass
 use Rattle.std.proofs.Math.Seq.{take-suc}
 use Rattle.std.proofs.lemmas.List.{map-append}
 use Rattle.std.proofs.lemmas.List.Elements.{All-head, All-tail, All-nil, All-cons}
-use Rattle.ot_plain.specs.Lists.{IsPart, IsSameSet}
-use Rattle.ot_plain.specs.Names.{Name}
-use Rattle.ot_plain.specs.Naming.{names}
-use Rattle.ot_plain.specs.Trees.{Tm, Free, Con, Bound, App, Abs, Sequent, Definition, Symbol}
-use Rattle.ot_plain.specs.Hol.{symbols_tm, symbols_all, symbols_of, symbols_in, used}
+use Rattle.ot_logic.specs.Lists.{IsPart, IsSameSet}
+use Rattle.ot_logic.specs.Names.{Name}
+use Rattle.ot_logic.specs.Naming.{names}
+use Rattle.ot_logic.specs.Trees.{Tm, Free, Con, Bound, App, Abs, Sequent, Definition, Symbol}
+use Rattle.ot_logic.specs.Hol.{symbols_tm, symbols_all, symbols_of, symbols_in, used}
 use Rattle.ot_laws.proofs.Sets.{part-append, same_set-self, same_set-then, same_set-append}
 use Rattle.ot_term.specs.declared.term.VarKey.{VarKey}
 use Rattle.ot_kernel.specs.State.{State, term_at, terms_at, theorem_at}
@@ -21,7 +21,7 @@ use Rattle.ot_term.specs.declared.term.Symbol as code_symbols
 use Rattle.ot_parse.specs.declared.notation.WordKind.{WordKind}
 use Rattle.ot_parse.specs.Symbols.{symbol_of}
 use Rattle.ot_pretty.specs.Run.{Adds, symbols_of_run, named_symbol}
-use Rattle.ot_plain.proofs.Members.{IsMember-left, IsMember-right}
+use Rattle.ot_logic.proofs.Members.{IsMember-left, IsMember-right}
 
 same-lists : {X : Type 0} (xs ys : List X) → xs ≡ ys → IsSameSet xs ys
 same-lists xs ys e = subst (IsSameSet xs) e (same_set-self xs)

@@ -2,8 +2,8 @@
 use Rattle.std.specs.Prelude.{◌≡◌, ◌++◌, ℕ, true, List, map, codes}
 use Rattle.std.specs.List.{list_any}
 use Rattle.std.proofs.Common.{◌∙◌, ap}
-use Rattle.ot_plain.specs.Names.{Name}
-use Rattle.ot_plain.specs.Trees.{Sequent, Symbol}
+use Rattle.ot_logic.specs.Names.{Name}
+use Rattle.ot_logic.specs.Trees.{Sequent, Symbol}
 use Rattle.ot_text.specs.Texts.{ascending}
 use Rattle.ot_text.specs.Sections.{section_text}
 use Rattle.ot_forms.specs.Words.{IsNotation}

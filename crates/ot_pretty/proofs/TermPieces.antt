@@ -2,11 +2,12 @@
 use Rattle.std.specs.Prelude.{◌≡◌, ℕ, suc, Bool, true, false, cond, List}
 use Rattle.std.specs.Prelude.{◌∷◌, ◌++◌, is_some, codes, Option, Some, None}
 use Rattle.std.proofs.Common.{refl, sym, ◌∙◌, ap, append_assoc, append-nil}
-use Rattle.ot_plain.specs.Names.{Name}
-use Rattle.ot_plain.specs.Naming.{names}
-use Rattle.ot_plain.specs.Trees.{Ty, Tm, Free, Con, Bound, App, Abs, Variable}
-use Rattle.ot_plain.specs.Trees.{Named, NVar, NConst, NApp, NAbs, Symbol}
-use Rattle.ot_plain.specs.Hol.{fun_ty, bool_ty, nameless_in, at_place, place}
+use Rattle.ot_logic.specs.Names.{Name}
+use Rattle.ot_logic.specs.Naming.{names}
+use Rattle.ot_logic.specs.Trees.{Ty, Tm, Free, Con, Bound, App, Abs, Variable}
+use Rattle.ot_logic.specs.Trees.{Named, NVar, NConst, NApp, NAbs, Symbol}
+use Rattle.ot_logic.specs.Hol.{fun_ty, bool_ty}
+use Rattle.ot_logic.specs.NamedTerms.{nameless_in, at_place, place}
 use Rattle.ot_laws.proofs.Tests.{tells_names}
 use Rattle.ot_laws.proofs.Equations.{as_equation-equation}
 use Rattle.ot_forms.specs.Words.{base}

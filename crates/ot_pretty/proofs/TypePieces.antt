@@ -1,10 +1,10 @@
 -- The readable texts of types, piece by piece.
 use Rattle.std.specs.Prelude.{◌≡◌, ℕ, ◌+◌, ◌<◌, false, List, [], ◌∷◌, ◌++◌, length, is_some, codes}
 use Rattle.std.proofs.Common.{refl, sym, ◌∙◌, ap, arith, get_or}
-use Rattle.ot_plain.specs.Names.{Name}
-use Rattle.ot_plain.specs.Naming.{names}
-use Rattle.ot_plain.specs.Trees.{Ty, TyOp, NoTys, MoreTys, Symbol, OpSymbol}
-use Rattle.ot_plain.specs.Hol.{fun_ty}
+use Rattle.ot_logic.specs.Names.{Name}
+use Rattle.ot_logic.specs.Naming.{names}
+use Rattle.ot_logic.specs.Trees.{Ty, TyOp, NoTys, MoreTys, Symbol, OpSymbol}
+use Rattle.ot_logic.specs.Hol.{fun_ty}
 use Rattle.ot_laws.proofs.Tests.{tells_names}
 use Rattle.ot_laws.proofs.Typing.{as_fun_ty-fun}
 use Rattle.ot_kernel.specs.State.{State, type_at, types_at}

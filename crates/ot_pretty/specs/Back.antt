@@ -1,8 +1,8 @@
 -- What the readable text of a sequent reads as.
 use Rattle.std.specs.Prelude.{List}
-use Rattle.ot_plain.specs.Lists.{IsSameSet}
-use Rattle.ot_plain.specs.Names.{Name}
-use Rattle.ot_plain.specs.Trees.{Tm, Sequent, Symbol}
+use Rattle.ot_logic.specs.Lists.{IsSameSet}
+use Rattle.ot_logic.specs.Names.{Name}
+use Rattle.ot_logic.specs.Trees.{Tm, Sequent, Symbol}
 use Rattle.ot_forms.specs.Refusals.{ReadsAs}
 use Rattle.ot_forms.specs.Printing.{readable_text}
 

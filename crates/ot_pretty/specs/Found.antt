@@ -1,11 +1,11 @@
 -- A search for the symbols of terms.
 use Rattle.std.specs.Prelude.{ℕ, ◌<◌, List, [], ◌∷◌, ◌++◌, map, length, ◌⊎◌}
 use Rattle.std.specs.List.{All, flat_map}
-use Rattle.ot_plain.specs.Hol.{symbols_ty, symbols_tm}
-use Rattle.ot_plain.specs.Lists.{IsMember, IsSameSet, AreDistinct}
-use Rattle.ot_plain.specs.Names.{Name}
-use Rattle.ot_plain.specs.Naming.{names}
-use Rattle.ot_plain.specs.Trees.{Symbol}
+use Rattle.ot_logic.specs.Hol.{symbols_ty, symbols_tm}
+use Rattle.ot_logic.specs.Lists.{IsMember, IsSameSet, AreDistinct}
+use Rattle.ot_logic.specs.Names.{Name}
+use Rattle.ot_logic.specs.Naming.{names}
+use Rattle.ot_logic.specs.Trees.{Symbol}
 use Rattle.ot_term.specs.declared.term.Symbol as code
 use Rattle.ot_term.specs.declared.term.SymbolKind.{SymbolKind}
 use Rattle.ot_kernel.specs.State.{State, name_at, type_at, term_at}

@@ -1,11 +1,11 @@
 -- The symbols of a run, and what the terms of a kernel add to them.
 use Rattle.std.specs.Prelude.{ℕ, ◌<◌, List, ◌++◌, length}
 use Rattle.std.specs.List.{All, flat_map}
-use Rattle.ot_plain.specs.Lists.{IsSameSet}
-use Rattle.ot_plain.specs.Names.{Name}
-use Rattle.ot_plain.specs.Naming.{names}
-use Rattle.ot_plain.specs.Trees.{Sequent, Definition, Symbol, ConSymbol, OpSymbol}
-use Rattle.ot_plain.specs.Hol.{symbols_in, symbols_all, used}
+use Rattle.ot_logic.specs.Lists.{IsSameSet}
+use Rattle.ot_logic.specs.Names.{Name}
+use Rattle.ot_logic.specs.Naming.{names}
+use Rattle.ot_logic.specs.Trees.{Sequent, Definition, Symbol, ConSymbol, OpSymbol}
+use Rattle.ot_logic.specs.Hol.{symbols_in, symbols_all, used}
 use Rattle.ot_term.specs.declared.term.Symbol as code
 use Rattle.ot_term.specs.declared.term.SymbolKind.{SymbolKind}
 use Rattle.ot_term.specs.declared.term.SymbolKind.TheVariants as kinds

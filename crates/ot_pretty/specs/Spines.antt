@@ -1,9 +1,9 @@
 -- The parts of the readable texts of applications.
 use Rattle.std.specs.Prelude.{ℕ, Bool, cond, ◌&&◌, List, ◌++◌, codes}
-use Rattle.ot_plain.specs.Names.{Name}
-use Rattle.ot_plain.specs.Naming.{names}
-use Rattle.ot_plain.specs.Trees.{Ty, Tm, App, Symbol, ConSymbol}
-use Rattle.ot_plain.specs.Hol.{same_ty}
+use Rattle.ot_logic.specs.Names.{Name}
+use Rattle.ot_logic.specs.Naming.{names}
+use Rattle.ot_logic.specs.Trees.{Ty, Tm, App, Symbol, ConSymbol}
+use Rattle.ot_logic.specs.Hol.{same_ty}
 use Rattle.ot_forms.specs.Words.{is_operator, is_hidden, base}
 use Rattle.ot_forms.specs.Forms.{term_text}
 use Rattle.ot_forms.specs.Meaning.{relation_ty}

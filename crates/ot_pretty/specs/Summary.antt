@@ -1,9 +1,9 @@
 -- The readable summary of a run: what it writes, and that it reads back.
 use Rattle.std.specs.Prelude.{◌≡◌, ℕ, true, List, ◌++◌, map, codes}
 use Rattle.std.specs.List.{All}
-use Rattle.ot_plain.specs.Lists.{IsSameSet}
-use Rattle.ot_plain.specs.Names.{Name}
-use Rattle.ot_plain.specs.Trees.{Sequent, Definition, Symbol}
+use Rattle.ot_logic.specs.Lists.{IsSameSet}
+use Rattle.ot_logic.specs.Names.{Name}
+use Rattle.ot_logic.specs.Trees.{Sequent, Definition, Symbol}
 use Rattle.ot_kernel.specs.State.{State, theorem_at}
 use Rattle.ot_text.specs.Texts.{ascending}
 use Rattle.ot_text.specs.Sections.{section_text}

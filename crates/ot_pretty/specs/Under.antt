@@ -1,9 +1,9 @@
 -- A kernel's terms, under binders and by number, and which of them are relations.
 use Rattle.std.specs.Prelude.{◌≡◌, ℕ, true, false, List}
-use Rattle.ot_plain.specs.Names.{Name}
-use Rattle.ot_plain.specs.Naming.{names}
-use Rattle.ot_plain.specs.Trees.{Ty, Tm, Variable, NConst, NApp, Symbol}
-use Rattle.ot_plain.specs.Hol.{nameless_in, at_place, place}
+use Rattle.ot_logic.specs.Names.{Name}
+use Rattle.ot_logic.specs.Naming.{names}
+use Rattle.ot_logic.specs.Trees.{Ty, Tm, Variable, NConst, NApp, Symbol}
+use Rattle.ot_logic.specs.NamedTerms.{nameless_in, at_place, place}
 use Rattle.ot_term.specs.declared.term.VarKey.{VarKey}
 use Rattle.ot_kernel.specs.State.{State, name_at, variable_at, named_at, term_at}
 use Rattle.ot_forms.specs.Printing.{is_relation, readable_term}

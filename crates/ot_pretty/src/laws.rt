@@ -1,8 +1,8 @@
 //! What readable text reads as.
 ghost use Rattle.std.specs.Prelude.{◌≡◌, ◌<◌, List, map, length};
 ghost use Rattle.std.specs.List.{All};
-ghost use Rattle.ot_plain.specs.Names.{Name};
-ghost use Rattle.ot_plain.specs.Trees.{Symbol};
+ghost use Rattle.ot_logic.specs.Names.{Name};
+ghost use Rattle.ot_logic.specs.Trees.{Symbol};
 ghost use Rattle.ot_kernel.specs.State.{theorem_at};
 ghost use Rattle.ot_forms.specs.Words.{IsNotation};
 ghost use Rattle.ot_pretty.specs.Back.{ReadsBackAs};

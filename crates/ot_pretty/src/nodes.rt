@@ -1,15 +1,15 @@
 //! Which of a kernel's terms are relations that are written between two propositions.
 ghost use Rattle.std.specs.Prelude.{◌≡◌, ◌<◌, length, IfNone, IfSome};
-ghost use Rattle.ot_plain.specs.Naming.{names};
-ghost use Rattle.ot_plain.specs.Hol.{bool_ty, same_ty};
+ghost use Rattle.ot_logic.specs.Naming.{names};
+ghost use Rattle.ot_logic.specs.Hol.{bool_ty, same_ty};
 ghost use Rattle.ot_kernel.specs.State.{name_at, type_at};
 ghost use Rattle.ot_forms.specs.Meaning.{relation_ty};
 ghost use Rattle.ot_pretty.specs.Spines.{is_relation_constant};
 ghost use Rattle.ot_pretty.specs.Under.{IsRelationName, IsNoRelationName, IsHalfRelation, IsNoHalfRelation};
 
 use ot_kernel::Kernel;
+use ot_logic::NameId;
 use ot_parse::{Notation, WordKind, base_of, is_operator};
-use ot_plain::NameId;
 use ot_print::nodes::function_parts;
 use ot_term::{TermId, TermNode};
 use ot_type::{TypeId, TypeNode};

@@ -1,7 +1,7 @@
 //! What has a readable text.
 ghost use Rattle.std.specs.Prelude.{◌≡◌, ◌<◌, ℕ, List, length, OnOk, OnErr, Err};
-ghost use Rattle.ot_plain.specs.Names.{Name};
-ghost use Rattle.ot_plain.specs.Trees.{Symbol};
+ghost use Rattle.ot_logic.specs.Names.{Name};
+ghost use Rattle.ot_logic.specs.Trees.{Symbol};
 ghost use Rattle.ot_kernel.specs.State.{State, theorem_at};
 ghost use Rattle.ot_forms.specs.Printing.{readable_text};
 ghost use Rattle.ot_text.specs.Pages.{IsPut, printed, Appended};

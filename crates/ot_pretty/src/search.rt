@@ -1,9 +1,9 @@
 //! A search for the symbols of terms: a term or a type that is shared is looked at once.
 ghost use Rattle.std.specs.Prelude.{◌≡◌, ◌<◌, [], map, length, IfOk, OnOk};
 ghost use Rattle.std.specs.List.{All};
-ghost use Rattle.ot_plain.specs.Lists.{AreDistinct, IsSameSet};
-ghost use Rattle.ot_plain.specs.Naming.{names};
-ghost use Rattle.ot_plain.specs.Hol.{symbols_tm, symbols_ty};
+ghost use Rattle.ot_logic.specs.Lists.{AreDistinct, IsSameSet};
+ghost use Rattle.ot_logic.specs.Naming.{names};
+ghost use Rattle.ot_logic.specs.Hol.{symbols_tm, symbols_ty};
 ghost use Rattle.ot_kernel.specs.State.{type_at, term_at};
 ghost use Rattle.ot_pretty.specs.Run.{named_symbol};
 ghost use Rattle.ot_pretty.specs.Found.{term_symbols, IsSearch, Finds, Reaches, AddsSymbol};
@@ -11,7 +11,7 @@ ghost use Rattle.ot_pretty.specs.Found.{AddsType, AddsTerm, AddsTypes, AddsTerms
 
 use indexmap::IndexSet;
 use ot_kernel::Kernel;
-use ot_plain::{Memory, NameId};
+use ot_logic::{Memory, NameId};
 use ot_term::{Symbol, SymbolKind, TermId, TermNode};
 use ot_type::{TypeId, TypeNode};
 use ot_view::{term_node, type_node};

@@ -1,10 +1,10 @@
 //! The symbols of a run.
 ghost use Rattle.std.specs.Prelude.{◌≡◌, ◌<◌, map, length, IfOk, OnOk};
 ghost use Rattle.std.specs.List.{All, flat_map};
-ghost use Rattle.ot_plain.specs.Lists.{AreDistinct, IsSameSet};
-ghost use Rattle.ot_plain.specs.Names.{Name as NameValue};
-ghost use Rattle.ot_plain.specs.Naming.{names};
-ghost use Rattle.ot_plain.specs.Hol.{symbols_of, symbols_in, symbols_all, used};
+ghost use Rattle.ot_logic.specs.Lists.{AreDistinct, IsSameSet};
+ghost use Rattle.ot_logic.specs.Names.{Name as NameValue};
+ghost use Rattle.ot_logic.specs.Naming.{names};
+ghost use Rattle.ot_logic.specs.Hol.{symbols_of, symbols_in, symbols_all, used};
 ghost use Rattle.ot_kernel.specs.State.{terms_at, theorem_at};
 ghost use Rattle.ot_kernel.specs.Definitions.{definition_at, IsHeld};
 ghost use Rattle.ot_parse.specs.Symbols.{symbol_of};
@@ -12,8 +12,8 @@ ghost use Rattle.ot_pretty.specs.Run.{symbols_of_run, Adds, named_symbol, symbol
 
 use crate::search::found_symbols;
 use ot_kernel::{Definition, Kernel, ThmId};
+use ot_logic::{Memory, Name};
 use ot_parse::{WordKind, copy_name};
-use ot_plain::{Memory, Name};
 use ot_term::{Symbol, SymbolKind, TermId};
 use std::alloc::{AllocError, Global};
 

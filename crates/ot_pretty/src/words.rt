@@ -6,8 +6,8 @@ ghost use Rattle.ot_parse.specs.Symbols.{symbol_of};
 ghost use Rattle.ot_text.specs.Pages.{IsPut, printed};
 
 use ot_kernel::Kernel;
+use ot_logic::{Name, NameId};
 use ot_parse::{Notation, WordKind, base_of, is_bare};
-use ot_plain::{Name, NameId};
 use ot_text::Page;
 
 /// The word of a symbol: its base name where it is hidden, else its components with dots between where no hidden symbol

@@ -1,10 +1,11 @@
 -- The texts of types and terms, piece by piece.
 use Rattle.std.specs.Prelude.{◌≡◌, ℕ, ◌+◌, ◌<◌, true, false, cond, List, [], ◌∷◌, ◌++◌, length, is_some, codes, Bool}
 use Rattle.std.proofs.Common.{refl, sym, ◌∙◌, ap, arith, append_assoc, append-nil, get_or}
-use Rattle.ot_plain.specs.Names.{Name}
-use Rattle.ot_plain.specs.Naming.{names}
-use Rattle.ot_plain.specs.Trees.{Ty, TyOp, NoTys, MoreTys, App, Variable, Named, NApp}
-use Rattle.ot_plain.specs.Hol.{fun_ty, equation, nameless_in}
+use Rattle.ot_logic.specs.Names.{Name}
+use Rattle.ot_logic.specs.Naming.{names}
+use Rattle.ot_logic.specs.Trees.{Ty, TyOp, NoTys, MoreTys, App, Variable, Named, NApp}
+use Rattle.ot_logic.specs.Hol.{fun_ty, equation}
+use Rattle.ot_logic.specs.NamedTerms.{nameless_in}
 use Rattle.ot_laws.proofs.Tests.{tells_names}
 use Rattle.ot_laws.proofs.Typing.{as_fun_ty-fun}
 use Rattle.ot_laws.proofs.Equations.{as_equation-equation}

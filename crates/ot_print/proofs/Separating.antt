@@ -2,15 +2,15 @@
 use Rattle.std.specs.Prelude.{◌≡◌, ℕ, ◌+◌, ◌<◌, ◌≤◌, Bool, true, false, List, [], ◌∷◌, ◌++◌, map, length, codes}
 use Rattle.std.proofs.Common.{refl, sym, ap, append_assoc, drop, get_or}
 use Rattle.std.proofs.Math.ListN.{drop_of_length-le}
-use Rattle.ot_plain.specs.Names.{Name}
-use Rattle.ot_plain.specs.Trees.{Variable, Sequent, TyDef}
+use Rattle.ot_logic.specs.Names.{Name}
+use Rattle.ot_logic.specs.Trees.{Variable, Sequent, TyDef}
 use Rattle.ot_term.specs.declared.term.VarKey.{VarKey}
 use Rattle.ot_kernel.specs.State.{State, name_at, variable_at}
 use Rattle.ot_kernel.specs.Definitions.{pairs_at}
 use Rattle.ot_text.specs.Texts.{name_text, sequent_text}
 use Rattle.ot_text.specs.Sections.{pair_text, pairs_text, further_pairs, names_text, further_names, head_text}
 use Rattle.ot_text.specs.Separated.{separator}
-use Rattle.ot_plain.proofs.Elements.{drop-item}
+use Rattle.ot_logic.proofs.Elements.{drop-item}
 
 -- the pairs from the first or from a further one on
 abbrev pub pairs_from : Bool → List (Name × Variable Name) → List ℕ

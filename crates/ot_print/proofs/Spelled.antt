@@ -2,15 +2,15 @@
 use Rattle.std.specs.Prelude.{is_some, ◌≢◌}
 use Rattle.std.proofs.Common.{◌≡◌, ℕ, ◌<◌, false, List, length, Option, Some, None}
 use Rattle.std.proofs.Common.{refl, sym, ap, ◌∙◌, subst, arith}
-use Rattle.ot_plain.specs.Names.{Name}
-use Rattle.ot_plain.specs.Trees.{Alphabet, Ty, TyOp, NoTys, MoreTys, Variable}
-use Rattle.ot_plain.specs.Trees.{Tm, Con, App, Named, NVar, NConst, NApp, NAbs}
-use Rattle.ot_plain.specs.Hol.{fun_ty, bool_ty, as_fun_ty, nameless_in}
-use Rattle.ot_plain.specs.Hol.{as_equation, equation, at_place, place}
-use Rattle.ot_plain.specs.Renamed.{map_ty, map_named}
-use Rattle.ot_plain.specs.Naming.{names, numbers, name_of, IsNameTable}
-use Rattle.ot_plain.proofs.Line.{IsLettering, letters, over_ty}
-use Rattle.ot_plain.proofs.Naming.{naming}
+use Rattle.ot_logic.specs.Names.{Name}
+use Rattle.ot_logic.specs.Trees.{Alphabet, Ty, TyOp, NoTys, MoreTys, Variable}
+use Rattle.ot_logic.specs.Trees.{Tm, Con, App, Named, NVar, NConst, NApp, NAbs}
+use Rattle.ot_logic.specs.Hol.{fun_ty, bool_ty, as_fun_ty, as_equation, equation}
+use Rattle.ot_logic.specs.NamedTerms.{nameless_in, at_place, place}
+use Rattle.ot_logic.specs.Renamed.{map_ty, map_named}
+use Rattle.ot_logic.specs.Naming.{names, numbers, name_of, IsNameTable}
+use Rattle.ot_logic.proofs.Line.{IsLettering, letters, over_ty}
+use Rattle.ot_logic.proofs.Naming.{naming}
 use Rattle.ot_laws.proofs.Tests.{Tells, tells_numbers}
 use Rattle.ot_laws.proofs.Typing.{as_fun_ty-some}
 use Rattle.ot_laws.proofs.Equations.{as_equation-some}

@@ -1,8 +1,8 @@
 -- Equations as named terms, over names.
-use Rattle.ot_plain.specs.Names.{Name}
-use Rattle.ot_plain.specs.Naming.{names}
-use Rattle.ot_plain.specs.Trees.{Ty, Named, NConst, NApp}
-use Rattle.ot_plain.specs.Hol.{fun_ty, bool_ty}
+use Rattle.ot_logic.specs.Names.{Name}
+use Rattle.ot_logic.specs.Naming.{names}
+use Rattle.ot_logic.specs.Trees.{Ty, Named, NConst, NApp}
+use Rattle.ot_logic.specs.Hol.{fun_ty, bool_ty}
 
 -- a = b as a named term, where both have this type
 abbrev pub equation_of : Ty Name → Named Name → Named Name → Named Name

@@ -1,7 +1,7 @@
 -- The printed text of a summary, over names: up to three sections.
 use Rattle.std.specs.Prelude.{List, ◌++◌, map, codes, ℕ}
-use Rattle.ot_plain.specs.Names.{Name}
-use Rattle.ot_plain.specs.Trees.{Sequent, Definition}
+use Rattle.ot_logic.specs.Names.{Name}
+use Rattle.ot_logic.specs.Trees.{Sequent, Definition}
 use Rattle.ot_args.specs.declared.sections.Sections.{Sections}
 use Rattle.ot_text.specs.Texts.{ascending, sequent_text}
 use Rattle.ot_text.specs.Sections.{definition_text, section_text}

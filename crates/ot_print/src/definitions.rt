@@ -15,7 +15,7 @@ use crate::sequents::put_sequent;
 use crate::table::InKernel;
 use crate::terms::put_typed;
 use ot_kernel::{Definition, Kernel, ThmId};
-use ot_plain::NameId;
+use ot_logic::NameId;
 use ot_term::VarKey;
 use ot_text::{Page, Printable};
 use std::alloc::Global;

@@ -1,16 +1,17 @@
 //! The spelling of a kernel's names, and the parts of its function types and of its equations.
 ghost use Rattle.std.specs.Prelude.{◌≡◌, ◌<◌, List, false, length, IfNone, IfSome};
-ghost use Rattle.ot_plain.specs.Names.{Name};
-ghost use Rattle.ot_plain.specs.Naming.{names};
-ghost use Rattle.ot_plain.specs.Trees.{Ty, Variable};
-ghost use Rattle.ot_plain.specs.Hol.{fun_ty, nameless_in};
+ghost use Rattle.ot_logic.specs.Names.{Name};
+ghost use Rattle.ot_logic.specs.Naming.{names};
+ghost use Rattle.ot_logic.specs.Trees.{Ty, Variable};
+ghost use Rattle.ot_logic.specs.Hol.{fun_ty};
+ghost use Rattle.ot_logic.specs.NamedTerms.{nameless_in};
 ghost use Rattle.ot_kernel.specs.State.{name_at, type_at, named_at};
 ghost use Rattle.ot_text.specs.Texts.{name_text, is_function, is_equation};
 ghost use Rattle.ot_print.specs.Equations.{equation_of};
 ghost use Rattle.ot_text.specs.Pages.{IsPut, printed};
 
 use ot_kernel::Kernel;
-use ot_plain::NameId;
+use ot_logic::NameId;
 use ot_term::TermId;
 use ot_text::Page;
 use ot_type::TypeId;

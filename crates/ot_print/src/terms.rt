@@ -1,7 +1,7 @@
 //! The texts of terms.
 ghost use Rattle.std.specs.Prelude.{◌≡◌, ◌<◌, ◌+◌, ◌^◌, ◌++◌, codes, length, OnOk, OnErr, Err};
-ghost use Rattle.ot_plain.specs.Naming.{names};
-ghost use Rattle.ot_plain.specs.Hol.{nameless_in, at_place, place as place_of};
+ghost use Rattle.ot_logic.specs.Naming.{names};
+ghost use Rattle.ot_logic.specs.NamedTerms.{nameless_in, at_place, place as place_of};
 ghost use Rattle.ot_kernel.specs.State.{name_at, type_at, variable_at, named_at, term_at};
 ghost use Rattle.ot_text.specs.Texts.{name_text, ty_text, tm_text};
 ghost use Rattle.ot_view.specs.Nodes.{IsKey};
@@ -12,7 +12,7 @@ use crate::nodes::{equation_sides, put_name};
 use crate::table::InKernel;
 use crate::types::put_type;
 use ot_kernel::Kernel;
-use ot_plain::NameId;
+use ot_logic::NameId;
 use ot_term::{TermId, TermNode, VarKey};
 use ot_text::{Page, PrintFault, Printable, append};
 use ot_type::TypeId;

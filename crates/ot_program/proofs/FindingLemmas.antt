@@ -10,12 +10,12 @@ use Rattle.std.proofs.Math.Seq.{take-suc}
 use Rattle.std.proofs.lemmas.List.{map-append, take-append-drop}
 use Rattle.std.proofs.lemmas.Simd.{map-map}
 use Rattle.std.proofs.lemmas.List.Elements.{All-append, All-cons}
-use Rattle.ot_plain.specs.Answers.{◌>>=◌}
-use Rattle.ot_plain.specs.Names.{Name}
-use Rattle.ot_plain.specs.Trees.{Tm, Sequent}
-use Rattle.ot_plain.specs.Lists.{IsMember}
-use Rattle.ot_plain.specs.declared.memory.Memory.{Memory as NoMemory}
-use Rattle.ot_io.specs.Causes.{Rose}
+use Rattle.ot_logic.specs.Answers.{◌>>=◌}
+use Rattle.ot_logic.specs.Names.{Name}
+use Rattle.ot_logic.specs.Trees.{Tm, Sequent}
+use Rattle.ot_logic.specs.Lists.{IsMember}
+use Rattle.ot_logic.specs.declared.memory.Memory.{Memory as NoMemory}
+use Rattle.ot_io.specs.Causes.{CountRose}
 use Rattle.ot_io.specs.Folder.{Folder}
 use Rattle.ot_args.specs.Grammar.{is_theory}
 use Rattle.ot_blocks.specs.Paths.{package_path}
@@ -118,7 +118,7 @@ module _ (packages path : List ℕ) (folder : Option Folder) (at : Option (List 
     (m m' f f' : ℕ) (theory : is_theory path ≡ true) where
   walk_stop : (r : Refusal) (v : Verdict) → required_status r ≡ Refused → IsSaid v Refused (required_line r)
       → IfSome folder (λ files. required files limits.theory_bytes packages path ≡ Err r)
-      → HasEndedWalk packages path folder at (Rose f f') (Rose m m') v
+      → HasEndedWalk packages path folder at (CountRose f f') (CountRose m m') v
   walk_stop r v refused said is =
       AtStop r (record { status_is = said.status_is ∙ sym refused; text_is = said.text_is })
       (mapped (λ files. required files limits.theory_bytes packages path) (λ answer. answer ≡ Err r) folder is) theory
@@ -129,7 +129,7 @@ module _ (packages path : List ℕ) (folder : Option Folder) (at : Option (List 
       → HasWalkCause e m m' f f' at
       → IfSome folder (λ files. FailsAt (IsWalked files limits.theory_bytes packages path) e) → (v : Verdict)
       → IsWalkVerdict e v
-      → HasEndedWalk packages path folder at (Rose f f') (Rose m m') v
+      → HasEndedWalk packages path folder at (CountRose f f') (CountRose m m') v
   walk_ended (repos.Theory p line fault) gives cause fails v said =
       walk_stop (repo.Theory (string_bytes p) line fault) v refl said gives
   walk_ended (repos.TheoryTooLarge p) gives cause fails v said =
@@ -423,7 +423,7 @@ walk_last packages path folder at P Q v (AtFailure file said has cause) = theory
 theory_stop : (path : List ℕ) (s : Stop) → is_theory path ≡ true → IsInputStop path s
 theory_stop path s theory = rw theory tt
 
-theory_failed : (path : List ℕ) (i j f g : ℕ) → is_theory path ≡ true → Rose f g → FailedAt path i j f g
+theory_failed : (path : List ℕ) (i j f g : ℕ) → is_theory path ≡ true → CountRose f g → FailedAt path i j f g
 theory_failed path i j f g theory rose = rw (no_standard path theory) rose
 
 no_runs : (rs : List PackageRun) (fulls : List (List ℕ)) → map (λ p. p.name) rs ≡ fulls → fulls ≡ [] → rs ≡ []
@@ -518,8 +518,8 @@ module _ (packages pattern path : List ℕ) (folder : Option Folder) (input : Op
   -- ---- what ends its parts ends it
 
   pub walk_ends : (at : Option (List ℕ)) (m m' f f' i j : ℕ) (v : Verdict)
-      → HasEndedWalk packages path folder at (Rose f f') (Rose m m') v
-      → HasEndedSearch packages pattern path folder input at (FailedAt path i j f f') (Rose m m') v
+      → HasEndedWalk packages path folder at (CountRose f f') (CountRose m m') v
+      → HasEndedSearch packages pattern path folder input at (FailedAt path i j f f') (CountRose m m') v
   walk_ends at m m' f f' i j v (AtStop r said is theory cause) =
       AtStop (InRequired r) said (required_stop r theory is) theory cause
   walk_ends at m m' f f' i j v (AtFailure file said has cause) =
@@ -547,9 +547,9 @@ module _ (packages pattern path : List ℕ) (folder : Option Folder) (input : Op
       pattern_ends at P Q v (AtFailure file said has cause) = absurd has
 
       pub runs_end : (p : Tm Name) → IsPattern n pattern p → (at : Option (List ℕ)) (m m' M f f' F i j : ℕ)
-          → (Rose f f' → Rose F f') → (Rose m m' → Rose M m') → (v : Verdict)
-          → HasEndedRuns packages fulls folder at (Rose f f') (Rose m m') v
-          → HasEndedSearch packages pattern path folder input at (FailedAt path i j F f') (Rose M m') v
+          → (CountRose f f' → CountRose F f') → (CountRose m m' → CountRose M m') → (v : Verdict)
+          → HasEndedRuns packages fulls folder at (CountRose f f') (CountRose m m') v
+          → HasEndedSearch packages pattern path folder input at (FailedAt path i j F f') (CountRose M m') v
       runs_end p is_p at m m' M f f' F i j failed missed v ended = go required v ended where
         of_package : (o : Option Folder) (file full : List ℕ)
             → IfSome (required_in packages path o) (λ answer. answer ≡ Ok fulls)
@@ -563,8 +563,8 @@ module _ (packages pattern path : List ℕ) (folder : Option Folder) (input : Op
         in_none full among none = subst (IsMember full) none among
 
         go : AreRequired packages path folder fulls → (v : Verdict)
-            → HasEndedRuns packages fulls folder at (Rose f f') (Rose m m') v
-            → HasEndedSearch packages pattern path folder input at (FailedAt path i j F f') (Rose M m') v
+            → HasEndedRuns packages fulls folder at (CountRose f f') (CountRose m m') v
+            → HasEndedSearch packages pattern path folder input at (FailedAt path i j F f') (CountRose M m') v
         go (inl theory) v (AtStop s said is some cause) =
             AtStop (InRun s) said (runs_stop_search fulls required n ran p is_p.is_read s some is)
             (theory_stop path s theory.0) (λ none. missed (cause none))
@@ -650,12 +650,13 @@ module _ (packages pattern path : List ℕ) (folder : Option Folder) (input : Op
   pub search_later : {X : Type 0} (at : Option (List ℕ)) (i j f0 f1 f2 m0 m1 m2 : ℕ) (r : Result X Ending) → f0 ≤ f1
       → m0 ≤ m1
       → IfErr r
-      (IfEnded (HasEndedSearch packages pattern path folder input at (FailedAt path i j f1 f2) (Rose m1 m2)))
+      (IfEnded (HasEndedSearch packages pattern path folder input at (FailedAt path i j f1 f2) (CountRose m1 m2)))
       → IfErr r
-      (IfEnded (HasEndedSearch packages pattern path folder input at (FailedAt path i j f0 f2) (Rose m0 m2)))
+      (IfEnded (HasEndedSearch packages pattern path folder input at (FailedAt path i j f0 f2) (CountRose m0 m2)))
   search_later at i j f0 f1 f2 m0 m1 m2 r faults misses =
-      err_ended (HasEndedSearch packages pattern path folder input at (FailedAt path i j f1 f2) (Rose m1 m2))
-      (HasEndedSearch packages pattern path folder input at (FailedAt path i j f0 f2) (Rose m0 m2)) r
+      err_ended (HasEndedSearch packages pattern path folder input at (FailedAt path i j f1 f2) (CountRose m1 m2))
+      (HasEndedSearch packages pattern path folder input at (FailedAt path i j f0 f2) (CountRose m0 m2)) r
       (ended_later (find_at packages pattern path folder input) find_status find_line (IsFindStop path)
-      (IsFailedPath (FindPattern packages pattern path) folder at) (FailedAt path i j f1 f2) (Rose m1 m2)
-      (FailedAt path i j f0 f2) (Rose m0 m2) (failed_later path i j f0 f1 f2 faults) (rose_later m0 m1 m2 misses))
+      (IsFailedPath (FindPattern packages pattern path) folder at) (FailedAt path i j f1 f2) (CountRose m1 m2)
+      (FailedAt path i j f0 f2) (CountRose m0 m2) (failed_later path i j f0 f1 f2 faults)
+      (rose_later m0 m1 m2 misses))

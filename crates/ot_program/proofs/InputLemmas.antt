@@ -3,11 +3,11 @@ use Rattle.std.proofs.Common.{◌≡◌, ℕ, List, subst}
 use Rattle.std.specs.Prelude.{Option, Some, None, IfSome, IfOk, IfErr, Result, Ok, Err, Vec, String, string_bytes}
 use Rattle.std.specs.Global.{Global}
 use Rattle.std.specs.Option.{option_map}
-use Rattle.ot_plain.specs.Names.{Name}
-use Rattle.ot_plain.specs.Faults.{Fault}
-use Rattle.ot_plain.specs.Lists.{IsMember}
-use Rattle.ot_plain.specs.declared.limits.Limits.{Limits}
-use Rattle.ot_io.specs.Causes.{Rose}
+use Rattle.ot_logic.specs.Names.{Name}
+use Rattle.ot_logic.specs.Faults.{Fault}
+use Rattle.ot_logic.specs.Lists.{IsMember}
+use Rattle.ot_logic.specs.declared.limits.Limits.{Limits}
+use Rattle.ot_io.specs.Causes.{CountRose}
 use Rattle.ot_io.specs.Folder.{Folder}
 use Rattle.ot_machine.specs.declared.session.Session.{Session}
 use Rattle.ot_machine.specs.declared.machine.Export.{Export}
@@ -121,10 +121,11 @@ article_cause None path line P Q = tt
 article_cause (Some f) path line P Q = λ is. absurd cc
 
 pub theory_cause : (s : Session) (r : Result (Vec Export Global) LinkFault) (at : Option (List ℕ)) (m m' f f' : ℕ)
-    → IfErr r (λ e. HasLinkCause e m m' f f' at) → IfSome (end_of s r) (HasCause stop_status (Rose f f') (Rose m m'))
+    → IfErr r (λ e. HasLinkCause e m m' f f' at)
+    → IfSome (end_of s r) (HasCause stop_status (CountRose f f') (CountRose m m'))
 theory_cause s (Ok exports) at m m' f f' cause = tt
 theory_cause s (Err (faults.Article p line fault)) at m m' f f' cause =
-    article_cause _ (string_bytes p) line (Rose f f') (Rose m m')
+    article_cause _ (string_bytes p) line (CountRose f f') (CountRose m m')
 theory_cause s (Err (faults.Theory p line fault)) at m m' f f' cause = λ is. absurd cc
 theory_cause s (Err (faults.Structure p line fault)) at m m' f f' cause = λ is. absurd cc
 theory_cause s (Err (faults.TheoryTooLarge p)) at m m' f f' cause = λ is. absurd cc
@@ -175,10 +176,10 @@ alone_own s (Err faults.Memory) path own = tt
 -- and fails only where its source does
 pub alone_cause : (s : Session) (r : Result (Vec Export Global) LinkFault) (path : List ℕ) (f f' : ℕ)
     → IfErr r (IsOfArticle path)
-    → IfErr r (λ e. HasFailed e f f') → IfSome (end_of s r) (HasCause stop_status (Rose f f') ⊥)
+    → IfErr r (λ e. HasFailed e f f') → IfSome (end_of s r) (HasCause stop_status (CountRose f f') ⊥)
 alone_cause s (Ok exports) path f f' own cause = tt
 alone_cause s (Err (faults.Article p line fault)) path f f' own cause =
-    article_cause _ (string_bytes p) line (Rose f f') ⊥
+    article_cause _ (string_bytes p) line (CountRose f f') ⊥
 alone_cause s (Err (faults.Theory p line fault)) path f f' own cause = absurd own
 alone_cause s (Err (faults.Structure p line fault)) path f f' own cause = absurd own
 alone_cause s (Err (faults.TheoryTooLarge p)) path f f' own cause = absurd own

@@ -10,12 +10,12 @@ use Rattle.std.proofs.lemmas.Slice.Eq.{bytes_eq-Decides}
 use Rattle.std.proofs.lemmas.Simd.{map-map}
 use Rattle.std.proofs.Math.Nat.{min-le_left, min-le_right, le-min}
 use Rattle.std.proofs.lemmas.Bool.{lt-leb}
-use Rattle.ot_plain.specs.Names.{Name}
-use Rattle.ot_plain.specs.Faults.{Fault}
-use Rattle.ot_plain.specs.Trees.{Sequent, Definition}
-use Rattle.ot_plain.specs.Lists.{IsMember}
-use Rattle.ot_plain.specs.declared.limits.Limits.{Limits}
-use Rattle.ot_io.specs.Causes.{Rose}
+use Rattle.ot_logic.specs.Names.{Name}
+use Rattle.ot_logic.specs.Faults.{Fault}
+use Rattle.ot_logic.specs.Trees.{Sequent, Definition}
+use Rattle.ot_logic.specs.Lists.{IsMember}
+use Rattle.ot_logic.specs.declared.limits.Limits.{Limits}
+use Rattle.ot_io.specs.Causes.{CountRose}
 use Rattle.ot_io.specs.Folder.{Folder}
 use Rattle.ot_io.proofs.Keeping.{KeepsFiles-then}
 use Rattle.ot_args.specs.Grammar.{is_theory}
@@ -44,7 +44,7 @@ use Rattle.ot_program.specs.declared.status.Status.TheVariants.{Accepted, Refuse
 use Rattle.ot_program.specs.declared.task.View.{View}
 use Rattle.ot_program.proofs.RunLemmas.{assumptions_are, definitions_are, exports_are}
 use Rattle.ot_program.proofs.LimitLemmas.{text_printed, text_too_large}
-use Rattle.ot_plain.proofs.Members.{IsMember-left, IsMember-right}
+use Rattle.ot_logic.proofs.Members.{IsMember-left, IsMember-right}
 use Rattle.ot_program.proofs.Options.{untold}
 
 -- ---- what an input shows
@@ -241,7 +241,7 @@ causes names P Q P' Q' (Some (Stopped s)) failed missed cause = λ is. missed (c
 causes names P Q P' Q' (Some (Failed p)) failed missed cause = failed cause
 
 -- a device that failed later failed since
-pub rose_later : (a b c : ℕ) → a ≤ b → Rose b c → Rose a c
+pub rose_later : (a b c : ℕ) → a ≤ b → CountRose b c → CountRose a c
 rose_later a b c h r =
     let first : min (a + 1) 18446744073709551615 ≤ a + 1 = min-le_left (a + 1) 18446744073709551615 in
     let next : min (a + 1) 18446744073709551615 ≤ b + 1 = omega arith in
@@ -250,10 +250,11 @@ rose_later a b c h r =
     let later : min (b + 1) 18446744073709551615 ≤ c = r in
     omega arith
 
-pub failed_later : (path : List ℕ) (i j a b c : ℕ) → a ≤ b → MatchBool (is_standard path) (Rose i j) (Rose b c)
-    → MatchBool (is_standard path) (Rose i j) (Rose a c)
+pub failed_later : (path : List ℕ) (i j a b c : ℕ) → a ≤ b
+    → MatchBool (is_standard path) (CountRose i j) (CountRose b c)
+    → MatchBool (is_standard path) (CountRose i j) (CountRose a c)
 failed_later path i j a b c h r = go (is_standard path) r where
-  go : (t : Bool) → MatchBool t (Rose i j) (Rose b c) → MatchBool t (Rose i j) (Rose a c)
+  go : (t : Bool) → MatchBool t (CountRose i j) (CountRose b c) → MatchBool t (CountRose i j) (CountRose a c)
   go true r = r
   go false r = rose_later a b c h r
 

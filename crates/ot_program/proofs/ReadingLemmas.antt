@@ -6,8 +6,8 @@ use Rattle.std.specs.Prelude.{None, IfSome, IsSomeAnd, Result, Ok, Err, IfOk, Ve
 use Rattle.std.specs.Global.{Global}
 use Rattle.std.proofs.lemmas.Bool.{le-leb, lt-leb}
 use Rattle.std.specs.Option.{option_map, option_and_then}
-use Rattle.ot_plain.specs.Names.{Name}
-use Rattle.ot_plain.specs.Trees.{Tm, Sequent, Symbol}
+use Rattle.ot_logic.specs.Names.{Name}
+use Rattle.ot_logic.specs.Trees.{Tm, Sequent, Symbol}
 use Rattle.ot_io.specs.Folder.{Folder, GivesFile, path_asked, bytes_at}
 use Rattle.ot_args.specs.Grammar.{is_theory}
 use Rattle.ot_kernel.specs.State.{State}

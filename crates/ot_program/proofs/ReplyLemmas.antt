@@ -2,7 +2,7 @@
 use Rattle.std.proofs.Common.{◌≡◌, ℕ, List, refl, ap, sym, subst, inl, inr, ◌⊎◌, ◌∙◌}
 use Rattle.std.specs.Prelude.{Bool, true, false, MatchBool, Option, Some, Ok, Err, IfSome}
 use Rattle.std.specs.Io.KnownBytes.{Appends}
-use Rattle.ot_io.specs.Causes.{Rose}
+use Rattle.ot_io.specs.Causes.{CountRose}
 use Rattle.ot_io.specs.Folder.{Folder}
 use Rattle.ot_io.specs.Sinks.{AppendsFront}
 use Rattle.ot_program.specs.Texts.{write_fault_line}
@@ -220,31 +220,32 @@ neither : (b : Bool) (P Q : Type 0) → ¬ P → ¬ Q → ¬ MatchBool b P Q
 neither true P Q p q held = p held
 neither false P Q p q held = q held
 
-no_failure : (t : TaskValue) (i j f g : ℕ) → ¬ Rose i j → ¬ Rose f g → ¬ FailedIn t i j f g
+no_failure : (t : TaskValue) (i j f g : ℕ) → ¬ CountRose i j → ¬ CountRose f g → ¬ FailedIn t i j f g
 no_failure (RunInput packages path view) i j f g input files failed =
-    neither (is_standard path) (Rose i j) (Rose f g) input files failed
+    neither (is_standard path) (CountRose i j) (CountRose f g) input files failed
 no_failure (RunSample n) i j f g input files failed =
-    neither (is_standard sample_path) (Rose i j) (Rose f g) input files failed
+    neither (is_standard sample_path) (CountRose i j) (CountRose f g) input files failed
 no_failure (MakeSample n) i j f g input files failed =
-    neither (is_standard sample_path) (Rose i j) (Rose f g) input files failed
+    neither (is_standard sample_path) (CountRose i j) (CountRose f g) input files failed
 no_failure (CheckLog path) i j f g input files failed =
-    neither (is_standard path) (Rose i j) (Rose f g) input files failed
+    neither (is_standard path) (CountRose i j) (CountRose f g) input files failed
 no_failure (ShowReadable packages path) i j f g input files failed =
-    neither (is_standard path) (Rose i j) (Rose f g) input files failed
+    neither (is_standard path) (CountRose i j) (CountRose f g) input files failed
 no_failure (ReadLines packages path text) i j f g input files (inl failed) =
-    neither (is_standard path) (Rose i j) (Rose f g) input files failed
+    neither (is_standard path) (CountRose i j) (CountRose f g) input files failed
 no_failure (ReadLines packages path text) i j f g input files (inr failed) = files failed
 no_failure (FindPattern packages pattern path) i j f g input files failed =
-    neither (is_standard path) (Rose i j) (Rose f g) input files failed
+    neither (is_standard path) (CountRose i j) (CountRose f g) input files failed
 
 pub complete : (words : List (List ℕ)) (t : TaskValue) (folder : Option Folder)
     (input at : Option (List ℕ)) (verdict status : Status) (text : List ℕ) (i j f g o p : ℕ)
     → task_of words ≡ Some t → Says verdict t folder input at text → Ends verdict status
-    → (verdict ≡ ReadFault → FailedIn t i j f g) → (status ≡ WriteFault → Rose o p)
-    → IfSome (answer words folder input) (λ reply. ¬ Rose i j → ¬ Rose f g → ¬ Rose o p → IsTold status reply.status)
+    → (verdict ≡ ReadFault → FailedIn t i j f g) → (status ≡ WriteFault → CountRose o p)
+    → IfSome (answer words folder input) (λ reply. ¬ CountRose i j → ¬ CountRose f g → ¬ CountRose o p
+    → IsTold status reply.status)
 complete words t folder input at verdict status text i j f g o p read says ends failed unwritten =
     replied words t folder input at verdict text
-    (λ reply. ¬ Rose i j → ¬ Rose f g → ¬ Rose o p → IsTold status reply.status) read says
+    (λ reply. ¬ CountRose i j → ¬ CountRose f g → ¬ CountRose o p → IsTold status reply.status) read says
     (λ reply is input files out. completes verdict status text ends
     (λ w. out (unwritten w)) (λ r. no_failure t i j f g input files (failed r)) reply is)
 

@@ -5,8 +5,8 @@ use Rattle.std.specs.List.{All}
 use Rattle.std.proofs.lemmas.List.{length-map}
 use Rattle.std.proofs.lemmas.List.Elements.{All-map}
 use Rattle.std.proofs.lemmas.Simd.{map-map}
-use Rattle.ot_plain.specs.Naming.{names}
-use Rattle.ot_plain.specs.Hol.{Accepted as AcceptedLists}
+use Rattle.ot_logic.specs.Naming.{names}
+use Rattle.ot_logic.specs.Hol.{Accepted as AcceptedLists}
 use Rattle.ot_laws.specs.Theorem.{IsTheorem}
 use Rattle.ot_args.specs.declared.sections.Sections.{Sections}
 use Rattle.ot_kernel.specs.State.{State, theorem_at, IsSoundState}
@@ -15,8 +15,8 @@ use Rattle.ot_machine.specs.declared.session.Session.{Session}
 use Rattle.ot_machine.specs.Meaning.{givens_of, made_of, run_of, IsRun, IsExportIn}
 use Rattle.ot_machine.specs.Writable.{IsWritable}
 use Rattle.ot_uses.specs.Suffices.{UsesSuffice}
-use Rattle.ot_plain.specs.Names.{Name}
-use Rattle.ot_plain.specs.Trees.{Sequent, Definition}
+use Rattle.ot_logic.specs.Names.{Name}
+use Rattle.ot_logic.specs.Trees.{Sequent, Definition}
 use Rattle.ot_print.specs.Texts.{summary_text}
 use Rattle.ot_text.specs.Pages.{Appended}
 use Rattle.ot_program.specs.Texts.{large_line}

@@ -2,7 +2,7 @@
 use Rattle.std.proofs.Common.{◌≡◌, ◌≤◌, ℕ, List, subst, arith}
 use Rattle.std.specs.Global.{Global}
 use Rattle.std.specs.Prelude.{true, Vec, Option, Some, None, Result, Ok, Err, IfOk, IfSome, OnOk}
-use Rattle.ot_io.specs.Causes.{Rose}
+use Rattle.ot_io.specs.Causes.{CountRose}
 use Rattle.ot_io.specs.Folder.{Folder}
 use Rattle.ot_link.specs.Stops.{Stop}
 use Rattle.ot_link.specs.Blocks.{Ran, article_end}
@@ -49,21 +49,21 @@ sample_end n folder input None ends = tt
 sample_end n folder input (Some e) ends = ends
 
 -- it doesn't fail, since its source doesn't
-no_rise : ¬ Rose 0 0
+no_rise : ¬ CountRose 0 0
 no_rise h = let e : 1 ≤ 0 = h in absurd (omega arith)
 
-never : {X : Type 0} → Rose 0 0 → X
+never : {X : Type 0} → CountRose 0 0 → X
 never h = absurd (no_rise h)
 
 pub sample_place : (n : ℕ) (folder : Option Folder) (at : Option (List ℕ)) (o : Option (End Ran Stop))
-    → IfSome o (IsOwnEnd sample_path) → IfSome o (HasCause stop_status (Rose 0 0) ⊥)
+    → IfSome o (IsOwnEnd sample_path) → IfSome o (HasCause stop_status (CountRose 0 0) ⊥)
     → IfSome o (IsPlace (RunSample n) folder at)
 sample_place n folder at None own cause = tt
 sample_place n folder at (Some (Finished r)) own cause = tt
 sample_place n folder at (Some (Stopped s)) own cause = own
 sample_place n folder at (Some (Failed path)) own cause = never cause
 
-pub sample_cause : (o : Option (End Ran Stop)) → IfSome o (HasCause stop_status (Rose 0 0) ⊥)
+pub sample_cause : (o : Option (End Ran Stop)) → IfSome o (HasCause stop_status (CountRose 0 0) ⊥)
     → IfSome o (HasCause stop_status ⊥ ⊥)
 sample_cause None cause = tt
 sample_cause (Some (Finished r)) cause = tt

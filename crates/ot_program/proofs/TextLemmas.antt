@@ -2,9 +2,9 @@
 use Rattle.std.proofs.Common.{◌≡◌, ℕ, List, [], ◌++◌, codes, refl, sym, ap, ◌∙◌, append_assoc}
 use Rattle.std.specs.Prelude.{slice_get, Option, Some, None, IsSomeAnd, Result, Ok, Err, OnOk}
 use Rattle.std.proofs.lemmas.Option.{get_or_from_slice_get}
-use Rattle.ot_plain.specs.Names.{Name, spelled}
-use Rattle.ot_plain.specs.Renamed.{map_symbol}
-use Rattle.ot_plain.specs.Faults.{Fault}
+use Rattle.ot_logic.specs.Names.{Name, spelled}
+use Rattle.ot_logic.specs.Renamed.{map_symbol}
+use Rattle.ot_logic.specs.Faults.{Fault}
 use Rattle.ot_kernel.specs.State.{State, name_at}
 use Rattle.ot_term.specs.Symbols.{symbol_named}
 use Rattle.ot_term.specs.declared.term.SymbolKind.{SymbolKind}

@@ -3,11 +3,11 @@ use Rattle.std.specs.Prelude.{◌≡◌, ◌⊎◌, ℕ, List, [], true, false, 
 use Rattle.std.specs.Prelude.{Some, Ok, Err, MatchBool, IfSome, IsSomeAnd, ◌≤◌}
 use Rattle.std.specs.List.{All}
 use Rattle.std.specs.Io.KnownBytes.{Appends}
-use Rattle.ot_plain.specs.Naming.{names}
-use Rattle.ot_plain.specs.Lists.{IsMember}
-use Rattle.ot_plain.specs.Hol.{IsSequent, Accepted as AcceptedLists}
+use Rattle.ot_logic.specs.Naming.{names}
+use Rattle.ot_logic.specs.Lists.{IsMember}
+use Rattle.ot_logic.specs.Hol.{IsSequent, Accepted as AcceptedLists}
 use Rattle.ot_laws.specs.Theorem.{IsTheorem}
-use Rattle.ot_io.specs.Causes.{Rose}
+use Rattle.ot_io.specs.Causes.{CountRose}
 use Rattle.ot_io.specs.Folder.{Folder, path_asked}
 use Rattle.ot_io.specs.Keeping.{KeepsFiles}
 use Rattle.ot_io.specs.Sinks.{AppendsFront}
@@ -256,7 +256,7 @@ pub record Prints (status : Status) (t : TaskValue) (told : Told t) (old new : O
 abbrev pub WritesLine : {E : Type 0} → (E → Option (List ℕ)) → (E → ℕ) → E → E → List ℕ → Type 0
 WritesLine written faults old new line =
     Appends (written old) (written new) line
-    ⊎ (Rose (faults old) (faults new) × AppendsFront (written old) (written new) line)
+    ⊎ (CountRose (faults old) (faults new) × AppendsFront (written old) (written new) line)
 
 -- the line on standard error that goes with a status
 abbrev pub IsLine : Status → Option TaskValue → Option Folder → Option (List ℕ) → Option (List ℕ) → List ℕ → Type 0
@@ -280,7 +280,7 @@ pub record WritesSome {E : Type 0} (IsOne : List ℕ → Type 0)
 -- the device that is read failed: standard input, or the files
 abbrev pub FailedAt : List ℕ → (before now : ℕ) → (files_before files_now : ℕ) → Type 0
 FailedAt path before now files_before files_now =
-    MatchBool (is_standard path) (Rose before now) (Rose files_before files_now)
+    MatchBool (is_standard path) (CountRose before now) (CountRose files_before files_now)
 
 -- and so does that of a text, which is a file
 abbrev pub FailedIn : TaskValue → (before now : ℕ) → (files_before files_now : ℕ) → Type 0
@@ -292,7 +292,7 @@ FailedIn (CheckLog path) before now files_before files_now = FailedAt path befor
 FailedIn (ShowReadable packages path) before now files_before files_now =
     FailedAt path before now files_before files_now
 FailedIn (ReadLines packages path text) before now files_before files_now =
-    FailedAt path before now files_before files_now ⊎ Rose files_before files_now
+    FailedAt path before now files_before files_now ⊎ CountRose files_before files_now
 FailedIn (FindPattern packages pattern path) before now files_before files_now =
     FailedAt path before now files_before files_now
 

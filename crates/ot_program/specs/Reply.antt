@@ -5,10 +5,10 @@ use Rattle.std.specs.List.{concat}
 use Rattle.std.specs.Option.{option_map, option_and_then}
 use Rattle.std.specs.Fmt.{decimal}
 use Rattle.std.specs.Str.{bytes_eq}
-use Rattle.ot_plain.specs.Names.{Name}
-use Rattle.ot_plain.specs.Trees.{Tm, Sequent, Definition, Symbol}
-use Rattle.ot_plain.specs.Answers.{◌>>=◌, some_or, unless}
-use Rattle.ot_plain.specs.declared.limits.Limits.{Limits}
+use Rattle.ot_logic.specs.Names.{Name}
+use Rattle.ot_logic.specs.Trees.{Tm, Sequent, Definition, Symbol}
+use Rattle.ot_logic.specs.Answers.{◌>>=◌, some_or, unless}
+use Rattle.ot_logic.specs.declared.limits.Limits.{Limits}
 use Rattle.ot_io.specs.Folder.{Folder, bytes_at}
 use Rattle.ot_args.specs.Grammar.{CommandValue, Check, Info, Uses as InfoUses, Readable as InfoReadable, Link}
 use Rattle.ot_args.specs.Grammar.{Minimise, Sample, SampleArticle, Verify, Read, Prove, Find, command_of, is_theory}

@@ -2,10 +2,10 @@
 use Rattle.std.specs.Prelude.{ℕ, List, [], ◌∷◌, ◌++◌, codes}
 use Rattle.std.specs.List.{concat}
 use Rattle.std.specs.Fmt.{decimal, signed_decimal}
-use Rattle.ot_plain.specs.Names.{Name, spelled}
-use Rattle.ot_plain.specs.Trees.{Symbol, ConSymbol, OpSymbol}
-use Rattle.ot_plain.specs.declared.kind.Kind.{Kind}
-use Rattle.ot_plain.specs.declared.kind.Kind.TheVariants as kinds
+use Rattle.ot_logic.specs.Names.{Name, spelled}
+use Rattle.ot_logic.specs.Trees.{Symbol, ConSymbol, OpSymbol}
+use Rattle.ot_logic.specs.declared.kind.Kind.{Kind}
+use Rattle.ot_logic.specs.declared.kind.Kind.TheVariants as kinds
 use Rattle.ot_theory.specs.declared.fault.TheoryFault.{TheoryFault}
 use Rattle.ot_theory.specs.declared.fault.TheoryFault.TheVariants as theory
 use Rattle.ot_blocks.specs.declared.fault.StructureFault.{StructureFault}
@@ -17,12 +17,12 @@ use Rattle.ot_repo.specs.Required as repo
 use Rattle.ot_link.specs.Stops.{Stop, InArticle, InTheory, InStructure, TooLarge, Missing}
 use Rattle.ot_records.specs.Tokens.{LogFault}
 use Rattle.ot_records.specs.Tokens as log
-use Rattle.ot_plain.specs.Faults.{Fault, LineTooLong, ArticleTooLong, UnknownCommand, BadName, BadNumber}
-use Rattle.ot_plain.specs.Faults.{NumberRange, VersionUnsupported, VersionLate, StackEmpty, WrongKind}
-use Rattle.ot_plain.specs.Faults.{NoEntry, EmptyList, NotFunction, ArgumentType, NotBool, NotEquation}
-use Rattle.ot_plain.specs.Faults.{NotAlphaEqual, VarFreeInHyps, NotRedex, BadSubst, ExportMismatch}
-use Rattle.ot_plain.specs.Faults.{Primitive, AlreadyDefined, SymbolInUse, NotClosed, TypeVarEscapes}
-use Rattle.ot_plain.specs.Faults.{BadDefinitionList, HypothesesPresent, NotApplication, BadTypeVars, Nesting}
+use Rattle.ot_logic.specs.Faults.{Fault, LineTooLong, ArticleTooLong, UnknownCommand, BadName, BadNumber}
+use Rattle.ot_logic.specs.Faults.{NumberRange, VersionUnsupported, VersionLate, StackEmpty, WrongKind}
+use Rattle.ot_logic.specs.Faults.{NoEntry, EmptyList, NotFunction, ArgumentType, NotBool, NotEquation}
+use Rattle.ot_logic.specs.Faults.{NotAlphaEqual, VarFreeInHyps, NotRedex, BadSubst, ExportMismatch}
+use Rattle.ot_logic.specs.Faults.{Primitive, AlreadyDefined, SymbolInUse, NotClosed, TypeVarEscapes}
+use Rattle.ot_logic.specs.Faults.{BadDefinitionList, HypothesesPresent, NotApplication, BadTypeVars, Nesting}
 
 -- how a kind is called
 abbrev pub kind_text : Kind → List ℕ

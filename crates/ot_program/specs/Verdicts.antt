@@ -4,10 +4,10 @@ use Rattle.std.specs.Prelude.{Some, None, Result, Ok, Err, Vec, MatchBool, IfSom
 use Rattle.std.specs.Global.{Global}
 use Rattle.std.specs.Option.{option_map}
 use Rattle.std.specs.List.{All}
-use Rattle.ot_plain.specs.Lists.{IsMember}
-use Rattle.ot_plain.specs.declared.memory.Memory.{Memory as NoMemory}
-use Rattle.ot_plain.specs.Names.{Name}
-use Rattle.ot_plain.specs.Trees.{Tm, Sequent}
+use Rattle.ot_logic.specs.Lists.{IsMember}
+use Rattle.ot_logic.specs.declared.memory.Memory.{Memory as NoMemory}
+use Rattle.ot_logic.specs.Names.{Name}
+use Rattle.ot_logic.specs.Trees.{Tm, Sequent}
 use Rattle.ot_args.specs.declared.sections.Sections.{Sections}
 use Rattle.ot_args.specs.declared.command.Usage as words
 use Rattle.ot_args.specs.Grammar.{is_theory}

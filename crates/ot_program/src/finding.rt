@@ -2,8 +2,8 @@
 ghost use Rattle.std.specs.Prelude.{◌≡◌, ◌⊎◌, ◌++◌, ℕ, List, [], Option, Ok, true};
 ghost use Rattle.std.specs.Prelude.{map, string_bytes, IfOk, IfErr, IfSome, OnOk};
 ghost use Rattle.std.specs.List.{All};
-ghost use Rattle.ot_plain.specs.PlainTrees.{term_of_tree};
-ghost use Rattle.ot_io.specs.Causes.{Rose};
+ghost use Rattle.ot_logic.specs.PlainTrees.{term_of_tree};
+ghost use Rattle.ot_io.specs.Causes.{CountRose};
 ghost use Rattle.ot_io.specs.Keeping.{KeepsSource};
 ghost use Rattle.ot_args.specs.Grammar.{is_theory};
 ghost use Rattle.ot_blocks.specs.Paths.{is_package};
@@ -32,9 +32,9 @@ use ot_args::is_theory;
 use ot_blocks::package_path;
 use ot_find::{PrintFault, Search, find_law};
 use ot_io::{Files, Source};
+use ot_logic::{Limits, Memory, Tm};
 use ot_machine::{Export, Session};
 use ot_parse::{ReadRefusal, TextFault, read_term};
-use ot_plain::{Limits, Memory, Tm};
 use ot_pretty::run_notation;
 use ot_print::one_text;
 use ot_read::as_the_forms_say;
@@ -95,7 +95,7 @@ pub fn run_finding<F: Files, S: Source>(
     ensures verdict { let t = FindPattern query.entry.packages.now query.entry.pattern.now query.entry.path.now in
         IfOk result (IsTaskVerdict t (F.folder files.old) (S.left input.old) (F.at files.new)
         (FailedIn t (S.faults input.old) (S.faults input.new) (F.faults files.old) (F.faults files.new))
-        (Rose (F.misses files.old) (F.misses files.new))) }
+        (CountRose (F.misses files.old) (F.misses files.new))) }
     ensures files { ClosesFiles F.folder F.faults F.misses F.left files.old files.new }
     ensures source { KeepsSource S.folder S.faults S.misses S.at input.old input.new }
     ensures other { LeavesOther query.entry.path.now files.old files.new input.old input.new }
@@ -118,7 +118,7 @@ fn searched<F: Files, S: Source>(
         (F.folder files.old) (S.left input.old) (F.at files.new)
         (FailedAt query.entry.path.now (S.faults input.old) (S.faults input.new) (F.faults files.old)
         (F.faults files.new))
-        (Rose (F.misses files.old) (F.misses files.new)))) }
+        (CountRose (F.misses files.old) (F.misses files.new)))) }
     ensures searched { IfOk result (HasSearched query.entry.packages.now query.entry.pattern.now
         query.entry.path.now (F.folder files.old) (S.left input.old)) }
     ensures files { ClosesFiles F.folder F.faults F.misses F.left files.old files.new }
@@ -150,7 +150,7 @@ fn search_input<F: Files, S: Source>(
         (F.folder files.old) (S.left input.old) (F.at files.new)
         (FailedAt query.entry.path.now (S.faults input.old) (S.faults input.new) (F.faults files.old)
         (F.faults files.new))
-        (Rose (F.misses files.old) (F.misses files.new)))) }
+        (CountRose (F.misses files.old) (F.misses files.new)))) }
     ensures searched { IfOk result (HasSearched query.entry.packages.now query.entry.pattern.now
         query.entry.path.now (F.folder files.old) (S.left input.old)) }
     ensures files { ClosesFiles F.folder F.faults F.misses F.left files.old files.new }
@@ -183,7 +183,7 @@ fn search_run<F: Files>(
         → IfErr result (IfEnded (HasEndedSearch query.entry.packages.now query.entry.pattern.now
         query.entry.path.now (F.folder files.old) input (F.at files.new)
         (FailedAt query.entry.path.now i j (F.faults files.old) (F.faults files.new))
-        (Rose (F.misses files.old) (F.misses files.new)))) }
+        (CountRose (F.misses files.old) (F.misses files.new)))) }
     ensures searched { (input : Option (List ℕ))
         → AreRequired query.entry.packages.now query.entry.path.now (F.folder files.old) (map string_bytes fulls.now)
         → IfSome (noted_at query.entry.packages.now query.entry.path.now (F.folder files.old) input)
@@ -209,7 +209,8 @@ fn required_packages<F: Files>(
     files: &mut F,
 ) -> Result<Vec<String>, Ending>
     ensures ended { IfErr result (IfEnded (HasEndedWalk packages.now path.now (F.folder files.old) (F.at files.new)
-        (Rose (F.faults files.old) (F.faults files.new)) (Rose (F.misses files.old) (F.misses files.new)))) }
+        (CountRose (F.faults files.old) (F.faults files.new))
+        (CountRose (F.misses files.old) (F.misses files.new)))) }
     ensures required { IfOk result (λ fulls. AreRequired packages.now path.now (F.folder files.old) (names_of fulls)) }
     ensures full { IfOk result (λ fulls. ArePackages (names_of fulls)) }
     ensures files { ClosesFiles F.folder F.faults F.misses F.left files.old files.new }
@@ -280,7 +281,7 @@ fn input_run<F: Files, S: Source>(
     ensures ended { IfErr result (IfEnded (HasEndedInput packages.now
         path.now (F.folder files.old) (S.left input.old) (F.at files.new)
         (FailedAt path.now (S.faults input.old) (S.faults input.new) (F.faults files.old) (F.faults files.new))
-        (Rose (F.misses files.old) (F.misses files.new)))) }
+        (CountRose (F.misses files.old) (F.misses files.new)))) }
     ensures ran { IfOk result (λ run. IfSome (noted_at packages.now path.now (F.folder files.old) (S.left input.old))
         (λ answer. answer ≡ Ok (noted_of session.new run))) }
     ensures session { IsRun session.new }
@@ -341,7 +342,8 @@ fn search_packages<F: Files>(
     requires full { ArePackages (map string_bytes fulls.now) }
     ensures ended { IfErr result (IfEnded (HasEndedRuns packages.now
         (map string_bytes fulls.now) (F.folder files.old) (F.at files.new)
-        (Rose (F.faults files.old) (F.faults files.new)) (Rose (F.misses files.old) (F.misses files.new)))) }
+        (CountRose (F.faults files.old) (F.faults files.new))
+        (CountRose (F.misses files.old) (F.misses files.new)))) }
     ensures searched { OnOk result (AreSearched packages.now (map string_bytes fulls.now)
         (F.folder files.old) (term_of_tree pattern.now) search.old search.new) }
     ensures files { ClosesFiles F.folder F.faults F.misses F.left files.old files.new }
@@ -365,7 +367,8 @@ fn search_package<F: Files>(
 ) -> Result<(), Ending>
     requires { is_package full.now ≡ true }
     ensures ended { IfErr result (IfEnded (HasEndedRun packages.now full.now (F.folder files.old) (F.at files.new)
-        (Rose (F.faults files.old) (F.faults files.new)) (Rose (F.misses files.old) (F.misses files.new)))) }
+        (CountRose (F.faults files.old) (F.faults files.new))
+        (CountRose (F.misses files.old) (F.misses files.new)))) }
     ensures searched { OnOk result (IsSearched packages.now full.now
         (F.folder files.old) (term_of_tree pattern.now) search.old search.new) }
     ensures files { ClosesFiles F.folder F.faults F.misses F.left files.old files.new }

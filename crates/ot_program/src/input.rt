@@ -1,6 +1,6 @@
 ghost use Rattle.std.specs.Prelude.{◌≡◌, [], Some, IfOk, IfErr, IfSome, string_bytes};
 ghost use Rattle.std.specs.Option.{option_map};
-ghost use Rattle.ot_io.specs.Causes.{Rose};
+ghost use Rattle.ot_io.specs.Causes.{CountRose};
 ghost use Rattle.ot_io.specs.Folder.{path_asked};
 ghost use Rattle.ot_io.specs.Keeping.{KeepsSource};
 ghost use Rattle.ot_link.specs.Blocks.{article_end};
@@ -16,8 +16,8 @@ use crate::task::Job;
 use ot_args::is_theory;
 use ot_io::{Files, OpenFault, Source};
 use ot_link::{LinkFault, link, run_alone};
+use ot_logic::Limits;
 use ot_machine::{Export, Session};
-use ot_plain::Limits;
 use std::alloc::Global;
 
 /// The name of standard input.
@@ -44,7 +44,7 @@ pub fn run_input<F: Files, S: Source>(
     ensures cause { IfSome (end_of session.new result)
         (HasCause stop_status (FailedAt job.entry.path.now (S.faults input.old)
         (S.faults input.new) (F.faults files.old) (F.faults files.new))
-        (Rose (F.misses files.old) (F.misses files.new))) }
+        (CountRose (F.misses files.old) (F.misses files.new))) }
     ensures files { ClosesFiles F.folder F.faults F.misses F.left files.old files.new }
     ensures source { KeepsSource S.folder S.faults S.misses S.at input.old input.new }
     ensures other { LeavesOther job.entry.path.now files.old files.new input.old input.new }
@@ -78,7 +78,7 @@ fn run_standard<S: Source>(
     ensures lawful { IfOk result (IsLawfulEnd session.new) }
     ensures symbols { IfErr result (NamesSymbolIn session.new.kernel) }
     ensures cause { IfSome (end_of session.new result)
-        (HasCause stop_status (Rose (S.faults input.old) (S.faults input.new)) ⊥) }
+        (HasCause stop_status (CountRose (S.faults input.old) (S.faults input.new)) ⊥) }
     ensures source { KeepsSource S.folder S.faults S.misses S.at input.old input.new }
 {
     let path = String::from_str(alloc, path)?;
@@ -105,8 +105,8 @@ pub fn run_theory<F: Files>(
     ensures lawful { IfOk result (IsLawfulEnd session.new) }
     ensures symbols { IfErr result (NamesSymbolIn session.new.kernel) }
     ensures cause { IfSome (end_of session.new result)
-        (HasCause stop_status (Rose (F.faults files.old) (F.faults files.new))
-        (Rose (F.misses files.old) (F.misses files.new))) }
+        (HasCause stop_status (CountRose (F.faults files.old) (F.faults files.new))
+        (CountRose (F.misses files.old) (F.misses files.new))) }
     ensures files { ClosesFiles F.folder F.faults F.misses F.left files.old files.new }
     ensures closed { F.left files.new ≡ Some [] }
 {
@@ -131,8 +131,8 @@ fn run_file<F: Files>(
     ensures lawful { IfOk result (IsLawfulEnd session.new) }
     ensures symbols { IfErr result (NamesSymbolIn session.new.kernel) }
     ensures cause { IfSome (end_of session.new result)
-        (HasCause stop_status (Rose (F.faults files.old) (F.faults files.new))
-        (Rose (F.misses files.old) (F.misses files.new))) }
+        (HasCause stop_status (CountRose (F.faults files.old) (F.faults files.new))
+        (CountRose (F.misses files.old) (F.misses files.new))) }
     ensures files { ClosesFiles F.folder F.faults F.misses F.left files.old files.new }
     ensures at { IfSome (end_of session.new result) (λ _. F.at files.new ≡ path_asked (F.folder files.old) path.now) }
 {
@@ -166,7 +166,7 @@ pub fn run_article<S: Source>(
     ensures lawful { IfOk result (IsLawfulEnd session.new) }
     ensures symbols { IfErr result (NamesSymbolIn session.new.kernel) }
     ensures cause { IfSome (end_of session.new result)
-        (HasCause stop_status (Rose (S.faults source.old) (S.faults source.new)) ⊥) }
+        (HasCause stop_status (CountRose (S.faults source.old) (S.faults source.new)) ⊥) }
     ensures source { KeepsSource S.folder S.faults S.misses S.at source.old source.new }
 {
     let limits = Limits::standard();

@@ -1,6 +1,6 @@
 //! The check of the log of a path.
 ghost use Rattle.std.specs.Prelude.{◌≡◌, ℕ, List, IfOk, IfSome};
-ghost use Rattle.ot_io.specs.Causes.{Rose};
+ghost use Rattle.ot_io.specs.Causes.{CountRose};
 ghost use Rattle.ot_io.specs.Folder.{path_asked};
 ghost use Rattle.ot_io.specs.Keeping.{KeepsSource};
 ghost use Rattle.ot_verify.specs.Verifying.{AreProved};
@@ -10,7 +10,7 @@ ghost use Rattle.ot_program.specs.Verdicts.{log_end_of, IsAnswer, IsEnd, IsPlace
 
 use crate::input::STANDARD;
 use ot_io::{Files, OpenFault, Source};
-use ot_plain::Limits;
+use ot_logic::Limits;
 use ot_verify::{LogFault, Verified, VerifyFault, verify};
 use std::alloc::Global;
 
@@ -40,7 +40,7 @@ pub fn check_log<F: Files, S: Source>(
     ensures proved { IfOk result AreProved }
     ensures cause { IfSome (log_end_of path.now result) (HasCause log_status
         (FailedAt path.now (S.faults input.old) (S.faults input.new) (F.faults files.old) (F.faults files.new))
-        (Rose (F.misses files.old) (F.misses files.new))) }
+        (CountRose (F.misses files.old) (F.misses files.new))) }
     ensures files { ClosesFiles F.folder F.faults F.misses F.left files.old files.new }
     ensures source { KeepsSource S.folder S.faults S.misses S.at input.old input.new }
     ensures other { LeavesOther path.now files.old files.new input.old input.new }
@@ -60,8 +60,8 @@ fn check_file<F: Files>(alloc: Global, path: &str, files: &mut F) -> Result<Veri
         IfSome (log_end_of path.now result) (IsAnswer (check_file path.now folder))) }
     ensures proved { IfOk result AreProved }
     ensures cause { IfSome (log_end_of path.now result)
-        (HasCause log_status (Rose (F.faults files.old) (F.faults files.new))
-        (Rose (F.misses files.old) (F.misses files.new))) }
+        (HasCause log_status (CountRose (F.faults files.old) (F.faults files.new))
+        (CountRose (F.misses files.old) (F.misses files.new))) }
     ensures files { ClosesFiles F.folder F.faults F.misses F.left files.old files.new }
     ensures at { F.at files.new ≡ path_asked (F.folder files.old) path.now }
 {
@@ -82,7 +82,8 @@ fn check_source<S: Source>(alloc: Global, source: &mut S) -> Result<Verified, Lo
         → IfSome (S.left source.old) (λ bytes. IfSome (log_end_of path result) (IsAnswer (check_bytes bytes))) }
     ensures proved { IfOk result AreProved }
     ensures cause { (path : List ℕ)
-        → IfSome (log_end_of path result) (HasCause log_status (Rose (S.faults source.old) (S.faults source.new)) ⊥) }
+        → IfSome (log_end_of path result)
+        (HasCause log_status (CountRose (S.faults source.old) (S.faults source.new)) ⊥) }
     ensures source { KeepsSource S.folder S.faults S.misses S.at source.old source.new }
 {
     let limit = Limits::standard().article_bytes;

@@ -1,7 +1,7 @@
 //! The run of an input, with the namespaces that it shows.
 ghost use Rattle.std.specs.Prelude.{◌≡◌, ◌⊎◌, true, IfOk, IfErr, IfSome};
 ghost use Rattle.std.specs.List.{All};
-ghost use Rattle.ot_io.specs.Causes.{Rose};
+ghost use Rattle.ot_io.specs.Causes.{CountRose};
 ghost use Rattle.ot_io.specs.Keeping.{KeepsSource};
 ghost use Rattle.ot_kernel.specs.State.{State};
 ghost use Rattle.ot_link.specs.Answers.{NamesSymbolIn, Comes, HasCause as HasLinkCause};
@@ -17,8 +17,8 @@ use crate::task::{Job, View};
 use ot_args::is_theory;
 use ot_io::{Files, Source};
 use ot_link::{LinkFault, shown};
+use ot_logic::{Limits, Name};
 use ot_machine::{Export, Session};
-use ot_plain::{Limits, Name};
 use std::alloc::Global;
 
 /// The exports of a run, with the namespaces that its input shows.
@@ -50,7 +50,7 @@ pub fn run_noted<F: Files, S: Source>(
     ensures cause { IfSome (noted_end_of session.new result)
         (HasCause stop_status (FailedAt path.now (S.faults input.old)
         (S.faults input.new) (F.faults files.old) (F.faults files.new))
-        (Rose (F.misses files.old) (F.misses files.new))) }
+        (CountRose (F.misses files.old) (F.misses files.new))) }
     ensures files { ClosesFiles F.folder F.faults F.misses F.left files.old files.new }
     ensures source { KeepsSource S.folder S.faults S.misses S.at input.old input.new }
     ensures other { LeavesOther path.now files.old files.new input.old input.new }

@@ -1,6 +1,6 @@
 ghost use Rattle.std.specs.Prelude.{◌≡◌, ◌≢◌, ◌↔◌, ◌⊎◌, ◌≤◌, None, Err, IfOk, IfSome, IsSomeAnd, OnOk, OnErr};
 ghost use Rattle.std.specs.Io.KnownBytes.{Appends};
-ghost use Rattle.ot_io.specs.Causes.{Rose, HasCause};
+ghost use Rattle.ot_io.specs.Causes.{CountRose, HasCause};
 ghost use Rattle.ot_io.specs.Keeping.{KeepsSource};
 ghost use Rattle.ot_io.specs.Sinks.{FlushesAll, AppendsFront};
 ghost use Rattle.ot_args.specs.Grammar.{texts_of, command_of};
@@ -22,8 +22,8 @@ use crate::task::{Task, read_task};
 use crate::texts::{OUT_OF_MEMORY, USAGE, WRITE_FAULT};
 use ot_args::Usage;
 use ot_io::{Files, Sink, Source, WriteFault, write_whole};
+use ot_logic::Memory;
 use ot_machine::Session;
-use ot_plain::Memory;
 use std::alloc::Global;
 
 /// All that the program does with the command's words, without the program's name. `check` runs an input and reports
@@ -83,14 +83,14 @@ pub fn run<F: Files, S: Source, O: Sink, E: Sink>(
 
     // Statuses 3, 4 and 5 come only where the device that they name counted it; all else is as stated, or memory ran
     // out.
-    ensures missing { result ≡ Status.NoFile → Rose (F.misses files.old) (F.misses files.new) }
+    ensures missing { result ≡ Status.NoFile → CountRose (F.misses files.old) (F.misses files.new) }
     ensures read { result ≡ Status.ReadFault → IfSome (task_of (texts_of words.now))
         (λ t. FailedIn t (S.faults input.old) (S.faults input.new) (F.faults files.old) (F.faults files.new)) }
-    ensures write { result ≡ Status.WriteFault → Rose (O.faults out.old) (O.faults out.new) }
+    ensures write { result ≡ Status.WriteFault → CountRose (O.faults out.old) (O.faults out.new) }
     ensures complete { IfSome (answer (texts_of words.now) (F.folder files.old) (S.left input.old)) (λ reply.
-        ¬ Rose (S.faults input.old) (S.faults input.new)
-        → ¬ Rose (F.faults files.old) (F.faults files.new)
-        → ¬ Rose (O.faults out.old) (O.faults out.new)
+        ¬ CountRose (S.faults input.old) (S.faults input.new)
+        → ¬ CountRose (F.faults files.old) (F.faults files.new)
+        → ¬ CountRose (O.faults out.old) (O.faults out.new)
         → (result ≡ Status.Memory) ⊎ (result ≡ reply.status)) }
 
     // What becomes of the devices: counts never fall, the input that isn't asked for is left alone, no file stays open.
@@ -128,7 +128,7 @@ fn run_task<F: Files, S: Source>(
     ensures verdict { IfOk result (IsTaskVerdict (task_value task.entry) (F.folder files.old) (S.left input.old) (F.at files.new)
         (FailedIn (task_value task.entry) (S.faults input.old) (S.faults input.new) (F.faults files.old)
         (F.faults files.new))
-        (Rose (F.misses files.old) (F.misses files.new))) }
+        (CountRose (F.misses files.old) (F.misses files.new))) }
     ensures files { ClosesFiles F.folder F.faults F.misses F.left files.old files.new }
     ensures source { KeepsSource S.folder S.faults S.misses S.at input.old input.new }
     ensures other { LeavesAlone (task_value task.entry) files.old files.new input.old input.new }
@@ -179,7 +179,7 @@ fn finish<O: Sink, E: Sink>(out: &mut O, err: &mut E, verdict: &Verdict) -> Stat
     ensures flushed { result ≡ Status.Accepted → FlushesAll (O.flushed out.old) (O.written out.new) (O.flushed out.new) }
     ensures quiet { result ≡ Status.Accepted → err.new ≡ err.old }
     ensures line { IfSome (error_line verdict.now.text.items result) (WritesLine E.written E.faults err.old err.new) }
-    ensures write { result ≡ Status.WriteFault → Rose (O.faults out.old) (O.faults out.new) }
+    ensures write { result ≡ Status.WriteFault → CountRose (O.faults out.old) (O.faults out.new) }
     ensures sinks { (O.faults out.old ≤ O.faults out.new) × (E.faults err.old ≤ E.faults err.new) }
 {
     match verdict.status {

@@ -10,8 +10,8 @@ ghost use Rattle.ot_program.specs.Verdicts.{noted_from, noted_end_of, IsVerdictO
 use crate::noted::NotedRun;
 use crate::report::{Verdict, accepted, proved, stopped, theorems_of, too_large};
 use ot_link::LinkFault;
+use ot_logic::{Limits, Memory};
 use ot_machine::Session;
-use ot_plain::{Limits, Memory};
 use ot_pretty::{PrintFault, readable_summary};
 use std::alloc::Global;
 

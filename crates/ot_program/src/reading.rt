@@ -1,7 +1,7 @@
 //! The lines of a readable text, read under the notation of a run.
 ghost use Rattle.std.specs.Prelude.{◌≡◌, ℕ, List, Ok, map, IfOk, IfErr, IfSome};
 ghost use Rattle.std.specs.List.{All};
-ghost use Rattle.ot_io.specs.Causes.{Rose};
+ghost use Rattle.ot_io.specs.Causes.{CountRose};
 ghost use Rattle.ot_io.specs.Folder.{path_asked};
 ghost use Rattle.ot_io.specs.Keeping.{KeepsSource};
 ghost use Rattle.ot_machine.specs.Meaning.{IsRun, IsExportIn};
@@ -20,9 +20,9 @@ use crate::report::{
 };
 use crate::texts::{column_line, line_of};
 use ot_io::{Files, OpenFault, ReadFault, Source, read_front};
+use ot_logic::{Limits, Memory};
 use ot_machine::Session;
 use ot_parse::{PlainFault, Readable, TextFault};
-use ot_plain::{Limits, Memory};
 use ot_pretty::run_notation;
 use ot_read::{LineRefusal, as_the_forms_say, read_lines, sequents_text};
 use std::alloc::Global;
@@ -69,7 +69,7 @@ pub fn run_reading<F: Files, S: Source>(
     ensures verdict { let t = ReadLines packages.now path.now text.now in
         IfOk result (IsTaskVerdict t (F.folder files.old) (S.left input.old) (F.at files.new)
         (FailedIn t (S.faults input.old) (S.faults input.new) (F.faults files.old) (F.faults files.new))
-        (Rose (F.misses files.old) (F.misses files.new))) }
+        (CountRose (F.misses files.old) (F.misses files.new))) }
     ensures files { ClosesFiles F.folder F.faults F.misses F.left files.old files.new }
     ensures source { KeepsSource S.folder S.faults S.misses S.at input.old input.new }
     ensures other { LeavesAlone (ReadLines packages.now path.now text.now) files.old files.new input.old input.new }
@@ -100,8 +100,8 @@ fn read_text<F: Files>(
     ensures stand { IfOk result (λ r. StandFor (notation (noted_of session.now run.now))
         (lines_of r.bytes.items) (map sequent_of r.sequents.items)) }
     ensures cause { IfSome (read_end_of text.now (noted_of session.now run.now) result)
-        (HasCause read_status (Rose (F.faults files.old) (F.faults files.new))
-        (Rose (F.misses files.old) (F.misses files.new))) }
+        (HasCause read_status (CountRose (F.faults files.old) (F.faults files.new))
+        (CountRose (F.misses files.old) (F.misses files.new))) }
     ensures files { ClosesFiles F.folder F.faults F.misses F.left files.old files.new }
     ensures at { F.at files.new ≡ path_asked (F.folder files.old) text.now }
 {
@@ -131,8 +131,8 @@ fn bytes_of<F: Files>(alloc: Global, text: &str, files: &mut F) -> Result<Vec<u8
         (λ folder. IfOk result (λ bytes. text_in text.now folder ≡ Ok bytes.items)) }
     ensures refused { IfSome (F.folder files.old) (λ folder. IfErr result (IsTextRefusal (text_in text.now folder))) }
     ensures cause { IfErr result
-        (λ e. IsTextCause e (Rose (F.faults files.old) (F.faults files.new))
-        (Rose (F.misses files.old) (F.misses files.new))) }
+        (λ e. IsTextCause e (CountRose (F.faults files.old) (F.faults files.new))
+        (CountRose (F.misses files.old) (F.misses files.new))) }
     ensures files { ClosesFiles F.folder F.faults F.misses F.left files.old files.new }
     ensures at { F.at files.new ≡ path_asked (F.folder files.old) text.now }
 {

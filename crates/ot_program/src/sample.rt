@@ -9,8 +9,8 @@ use crate::input::run_article;
 use crate::report::{Verdict, made_verdict, sample_verdict};
 use crate::status::Status;
 use ot_io::Bytes;
+use ot_logic::Memory;
 use ot_machine::Session;
-use ot_plain::Memory;
 use ot_sample::sample_article;
 use std::alloc::Global;
 

@@ -1,6 +1,6 @@
 ghost use Rattle.std.specs.Prelude.{◌≡◌, ◌≢◌, ◌<◌, ◌++◌, length, IfOk, IsSomeAnd, OnOk, codes};
 ghost use Rattle.std.specs.Fmt.{signed_decimal};
-ghost use Rattle.ot_plain.specs.Renamed.{map_symbol};
+ghost use Rattle.ot_logic.specs.Renamed.{map_symbol};
 ghost use Rattle.ot_kernel.specs.State.{name_at};
 ghost use Rattle.ot_term.specs.Symbols.{symbol_of};
 ghost use Rattle.ot_machine.specs.Faults.{fault_of};
@@ -12,9 +12,9 @@ ghost use Rattle.ot_program.specs.Wording.{kind_word, line_start};
 
 use ot_blocks::StructureFault;
 use ot_kernel::Kernel;
+use ot_logic::{Kind, Memory};
 use ot_machine::Fault;
 use ot_parse::TextFault;
-use ot_plain::{Kind, Memory};
 use ot_term::{Symbol, SymbolKind};
 use ot_theory::TheoryFault;
 use ot_verify::LogFault;

@@ -1,9 +1,9 @@
 -- Each theorem that is needed is written.
 use Rattle.std.proofs.Common.{◌≡◌, ℕ, true, List, [], ◌∷◌, Ok, sym, ap, subst, ◌∙◌, inl, inr, ◌⊎◌}
-use Rattle.ot_plain.specs.Lists.{IsMember}
-use Rattle.ot_plain.specs.Names.{Name}
-use Rattle.ot_plain.specs.Trees.{Sequent}
-use Rattle.ot_plain.specs.declared.command.Cmd.{Cmd}
+use Rattle.ot_logic.specs.Lists.{IsMember}
+use Rattle.ot_logic.specs.Names.{Name}
+use Rattle.ot_logic.specs.Trees.{Sequent}
+use Rattle.ot_logic.specs.declared.command.Cmd.{Cmd}
 use Rattle.ot_trace.specs.Origins.{Origin, Origins, Number, Named, Make, Define}
 use Rattle.ot_trace.specs.Origins.{Outcome, NoOrigins, MoreOrigins, listed, operands}
 use Rattle.ot_trace.specs.Reach.{IsReached, Root, Operand, OfTheorem, OfSymbol}
@@ -18,7 +18,7 @@ use Rattle.ot_proof_log.proofs.Steps.{step-of}
 use Rattle.ot_proof_log.proofs.Free.{IsFree, IsPlain, EachFree, EachPlain, step-plain, made-free}
 use Rattle.ot_proof_log.proofs.Holds.{HasTheorem, HasAll}
 use Rattle.ot_proof_log.proofs.Wrote.{no-theorem}
-use Rattle.ot_plain.proofs.Results.{bind-ok, same_Ok}
+use Rattle.ot_logic.proofs.Results.{bind-ok, same_Ok}
 
 -- what has no theorem in it is none
 free-all : (x : Written) (os : Origins Name) (vs : List Object) → values os ≡ Ok vs → EachFree vs → HasAll x os

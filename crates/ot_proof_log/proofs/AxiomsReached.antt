@@ -2,10 +2,10 @@
 use Rattle.std.specs.List.{AllByRecursion}
 use Rattle.std.proofs.Common.{◌≡◌, ℕ, suc, Bool, true, false, cond, List, [], ◌∷◌}
 use Rattle.std.proofs.Common.{Option, Some, None, refl, ap, subst, ◌∙◌, inl, inr}
-use Rattle.ot_plain.specs.Lists.{IsMember}
-use Rattle.ot_plain.specs.Names.{Name}
-use Rattle.ot_plain.specs.declared.command.Cmd.{Cmd}
-use Rattle.ot_plain.specs.declared.command.Cmd.TheVariants as words
+use Rattle.ot_logic.specs.Lists.{IsMember}
+use Rattle.ot_logic.specs.Names.{Name}
+use Rattle.ot_logic.specs.declared.command.Cmd.{Cmd}
+use Rattle.ot_logic.specs.declared.command.Cmd.TheVariants as words
 use Rattle.ot_laws.proofs.Sets.{all-member}
 use Rattle.ot_trace.specs.Origins.{Origin, Origins, Number, Named, Make, Define}
 use Rattle.ot_trace.specs.Origins.{Outcome, NoOrigins, MoreOrigins, listed}
@@ -16,7 +16,7 @@ use Rattle.ot_proof_log.specs.Writing.{Written, number_of, once, put_theorem, wr
 use Rattle.ot_proof_log.specs.Writing.{outcomes, add_outcomes, put_definition, write_definition}
 use Rattle.ot_proof_log.specs.Writing.{write_definitions, put_result, write_results}
 use Rattle.ot_proof_log.proofs.Outcomes.{numbered, added-theorems}
-use Rattle.ot_plain.proofs.Members.{IsMember-cases}
+use Rattle.ot_logic.proofs.Members.{IsMember-cases}
 
 numbered-member : (os : List (Origin Name)) (n : ℕ) (o : Origin Name) (k : ℕ) → IsMember (o, k) (numbered n os)
     → IsMember o os

@@ -3,15 +3,15 @@ use Rattle.std.specs.Prelude.{slice_get, is_some}
 use Rattle.std.specs.List.{AllByRecursion, flat_map, list_all}
 use Rattle.std.proofs.Common.{◌≡◌, ℕ, suc, ◌≤◌, true, ◌&&◌, List, [], ◌∷◌, map, length, Some}
 use Rattle.std.proofs.Common.{Result, Ok, refl, sym, ap, subst, ◌∙◌, inl, arith, length-append}
-use Rattle.ot_plain.specs.Lists.{IsSameSet}
-use Rattle.ot_plain.specs.Names.{Name}
-use Rattle.ot_plain.specs.Naming.{names}
-use Rattle.ot_plain.specs.Trees.{Variable, Tm, Sequent, Definition, ConDef, ListDef, TyDef}
-use Rattle.ot_plain.specs.Hol.{theorems}
-use Rattle.ot_plain.specs.Faults.{Fault, HypothesesPresent}
-use Rattle.ot_plain.specs.Answers.{◌>>=◌, unless}
-use Rattle.ot_plain.specs.declared.command.Cmd.{Cmd}
-use Rattle.ot_plain.specs.declared.command.Cmd.TheVariants as words
+use Rattle.ot_logic.specs.Lists.{IsSameSet}
+use Rattle.ot_logic.specs.Names.{Name}
+use Rattle.ot_logic.specs.Naming.{names}
+use Rattle.ot_logic.specs.Trees.{Variable, Tm, Sequent, Definition, ConDef, ListDef, TyDef}
+use Rattle.ot_logic.specs.Hol.{theorems}
+use Rattle.ot_logic.specs.Faults.{Fault, HypothesesPresent}
+use Rattle.ot_logic.specs.Answers.{◌>>=◌, unless}
+use Rattle.ot_logic.specs.declared.command.Cmd.{Cmd}
+use Rattle.ot_logic.specs.declared.command.Cmd.TheVariants as words
 use Rattle.ot_laws.specs.Conditions.{checked_const, checked_list, checked_type, is_empty}
 use Rattle.ot_kernel.specs.Defining.{all_defined, all_used}
 use Rattle.ot_records.specs.Tokens.{LogFault, BadStep}
@@ -46,8 +46,8 @@ use Rattle.ot_proof_log.proofs.Makes.{kept-within, type-named, term-named, numbe
 use Rattle.ot_proof_log.proofs.Singles.{Nodes, nodes-then, no-nodes, more-fits, flat-append}
 use Rattle.ot_proof_log.proofs.SameDefinitions.{AreMade, const-same, list-same, type-same}
 use Rattle.ot_proof_log.proofs.SameDefinitions.{theorems-same, all-defined-same, all-used-same}
-use Rattle.ot_plain.proofs.Elements.{AllByRecursion-append}
-use Rattle.ot_plain.proofs.Results.{bind-ok, unless-ok}
+use Rattle.ot_logic.proofs.Elements.{AllByRecursion-append}
+use Rattle.ot_logic.proofs.Results.{bind-ok, unless-ok}
 
 -- the record e of a definition d, which is the same as x
 pub record Defines (log : Log) (st : LogState Name) (es : List Entry) (x : Definition Name) : Type 0 where

@@ -5,17 +5,17 @@ use Rattle.std.specs.List.{AllByRecursion, list_all}
 use Rattle.std.proofs.Common.{◌≡◌, ℕ, suc, ◌≤◌, true, List, [], ◌∷◌, map}
 use Rattle.std.proofs.Common.{Some, Ok, refl, sym, ap, subst, ◌∙◌, inl, inr}
 use Rattle.std.proofs.lemmas.Bool.{and_parts}
-use Rattle.ot_plain.specs.Lists.{AreDistinct}
-use Rattle.ot_plain.specs.Names.{Name}
-use Rattle.ot_plain.specs.Naming.{names}
-use Rattle.ot_plain.specs.Trees.{Ty, TyVar, Variable, Tm, Free, Con, Bound, App}
-use Rattle.ot_plain.specs.Trees.{Abs, Sequent, Definition, ConDef, ListDef, TyDef}
-use Rattle.ot_plain.specs.Hol.{depth_limit, depth_tm, inst_by, fun_ty, applied, type_in, bool_ty, term_at, subst_tm}
-use Rattle.ot_plain.specs.Hol.{constants_for, IsTyped, theorems, is_shallow_sequent, IsSequent, sequent_of}
-use Rattle.ot_plain.specs.Faults.{Nesting}
-use Rattle.ot_plain.specs.Answers.{◌>>=◌, unless}
-use Rattle.ot_plain.specs.declared.command.Cmd.{Cmd}
-use Rattle.ot_plain.specs.declared.command.Cmd.TheVariants as words
+use Rattle.ot_logic.specs.Lists.{AreDistinct}
+use Rattle.ot_logic.specs.Names.{Name}
+use Rattle.ot_logic.specs.Naming.{names}
+use Rattle.ot_logic.specs.Trees.{Ty, TyVar, Variable, Tm, Free, Con, Bound, App}
+use Rattle.ot_logic.specs.Trees.{Abs, Sequent, Definition, ConDef, ListDef, TyDef}
+use Rattle.ot_logic.specs.Hol.{depth_limit, depth_tm, inst_by, fun_ty, applied, type_in, bool_ty, term_at, subst_tm}
+use Rattle.ot_logic.specs.Hol.{constants_for, IsTyped, theorems, is_shallow_sequent, IsSequent, sequent_of}
+use Rattle.ot_logic.specs.Faults.{Nesting}
+use Rattle.ot_logic.specs.Answers.{◌>>=◌, unless}
+use Rattle.ot_logic.specs.declared.command.Cmd.{Cmd}
+use Rattle.ot_logic.specs.declared.command.Cmd.TheVariants as words
 use Rattle.ot_laws.specs.Conditions.{checked_const, checked_list, checked_type}
 use Rattle.ot_laws.specs.Next.{AreSymbolsOf}
 use Rattle.ot_laws.proofs.Tests.{tells_names, var_cases}
@@ -33,7 +33,7 @@ use Rattle.ot_article.proofs.Operands.{const_given, list_given, type_given, give
 use Rattle.ot_entries.proofs.Fitting.{Fits, FitsType, HasTypesTo}
 use Rattle.ot_proof_log.proofs.Kept.{IsKeptTerm, IsKept, kept-shallow}
 use Rattle.ot_proof_log.proofs.KeptObjects.{IsKeptObject}
-use Rattle.ot_plain.proofs.Results.{bind-ok, same_Ok, unless-ok}
+use Rattle.ot_logic.proofs.Results.{bind-ok, same_Ok, unless-ok}
 
 abbrev pub ShallowTheorems : Definition Name → Type 0
 ShallowTheorems d = list_all (is_shallow_sequent names) (theorems names d) ≡ true

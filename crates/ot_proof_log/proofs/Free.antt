@@ -2,15 +2,15 @@
 use Rattle.std.specs.Prelude.{nat_le}
 use Rattle.std.specs.List.{AllByRecursion}
 use Rattle.std.proofs.Common.{◌≡◌, true, List, [], ◌∷◌, Result, Ok, refl, sym, subst, inl, inr, ◌⊎◌}
-use Rattle.ot_plain.specs.Names.{Name}
-use Rattle.ot_plain.specs.Naming.{names}
-use Rattle.ot_plain.specs.Trees.{Ty, Variable, Tm, Sequent, Definition}
-use Rattle.ot_plain.specs.Hol.{TypeMap, TermMap, depth_limit}
-use Rattle.ot_plain.specs.Faults.{Fault, Nesting, BadSubst, BadDefinitionList}
-use Rattle.ot_plain.specs.Answers.{◌>>=◌, unless}
-use Rattle.ot_plain.specs.Rules.{has_type}
-use Rattle.ot_plain.specs.declared.command.Cmd.{Cmd}
-use Rattle.ot_plain.specs.declared.command.Cmd.TheVariants as words
+use Rattle.ot_logic.specs.Names.{Name}
+use Rattle.ot_logic.specs.Naming.{names}
+use Rattle.ot_logic.specs.Trees.{Ty, Variable, Tm, Sequent, Definition}
+use Rattle.ot_logic.specs.Hol.{TypeMap, TermMap, depth_limit}
+use Rattle.ot_logic.specs.Faults.{Fault, Nesting, BadSubst, BadDefinitionList}
+use Rattle.ot_logic.specs.Answers.{◌>>=◌, unless}
+use Rattle.ot_logic.specs.Rules.{has_type}
+use Rattle.ot_logic.specs.declared.command.Cmd.{Cmd}
+use Rattle.ot_logic.specs.declared.command.Cmd.TheVariants as words
 use Rattle.ot_laws.proofs.Steps.{limit-ok}
 use Rattle.ot_kernel.specs.Pairs.{with_type, with_term}
 use Rattle.ot_machine.specs.Objects.{Object, Objects, number, name, list, type_op, a_type, constant}
@@ -28,7 +28,7 @@ use Rattle.ot_proof_log.specs.Derived.{makes_theorem}
 use Rattle.ot_proof_log.proofs.Steps.{one-of, two-of, IsStep, ByRefl, ByAssume, ByBeta, ByAbsThm, BySubst}
 use Rattle.ot_proof_log.proofs.Steps.{ByAxiom, BySym, ByEqMp, ByAppThm, ByDeductAntisym, ByTrans, ByProveHyp, step-of}
 use Rattle.ot_proof_log.proofs.Defining.{IsDefining, ByConst, ByList, ByType}
-use Rattle.ot_plain.proofs.Results.{bind-ok}
+use Rattle.ot_logic.proofs.Results.{bind-ok}
 
 -- no theorem in it
 abbrev mutual

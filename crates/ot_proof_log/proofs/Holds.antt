@@ -4,13 +4,13 @@ use Rattle.std.specs.Prelude.{slice_get, ◌-◌}
 use Rattle.std.proofs.Common.{◌≡◌, ℕ, true, false, Bool, cond, List, [], ◌∷◌, ◌++◌, length, Some, Ok}
 use Rattle.std.proofs.Common.{refl, sym, ap, subst, ◌∙◌, inl, inr, arith, length-append, append_assoc}
 use Rattle.std.specs.Bool.{Decides}
-use Rattle.ot_plain.specs.Lists.{IsMember}
-use Rattle.ot_plain.specs.Names.{Name}
-use Rattle.ot_plain.specs.Naming.{names}
-use Rattle.ot_plain.specs.Trees.{Sequent}
-use Rattle.ot_plain.specs.Hol.{same_sequent}
-use Rattle.ot_plain.specs.declared.command.Cmd.{Cmd}
-use Rattle.ot_plain.specs.declared.command.Cmd.TheVariants as words
+use Rattle.ot_logic.specs.Lists.{IsMember}
+use Rattle.ot_logic.specs.Names.{Name}
+use Rattle.ot_logic.specs.Naming.{names}
+use Rattle.ot_logic.specs.Trees.{Sequent}
+use Rattle.ot_logic.specs.Hol.{same_sequent}
+use Rattle.ot_logic.specs.declared.command.Cmd.{Cmd}
+use Rattle.ot_logic.specs.declared.command.Cmd.TheVariants as words
 use Rattle.ot_laws.proofs.Tests.{tells_names}
 use Rattle.ot_trace.specs.Origins.{Origin, Origins, Make, NoOrigins, MoreOrigins}
 use Rattle.ot_records.specs.State.{LogState}
@@ -30,8 +30,8 @@ use Rattle.ot_proof_log.specs.Writing.{Written, number_of, mark}
 use Rattle.ot_proof_log.proofs.Told.{IsTold, sequents-told}
 use Rattle.ot_proof_log.proofs.Texts.{is-same, same-back, same-then, once-member, member-once, once-has, once-apart}
 use Rattle.ot_proof_log.proofs.Makes.{Makes}
-use Rattle.ot_plain.proofs.Members.{IsMember-cases, IsMember-left, IsMember-right}
-use Rattle.ot_plain.proofs.TableLemmas.{slice_get-append_left}
+use Rattle.ot_logic.proofs.Members.{IsMember-cases, IsMember-left, IsMember-right}
+use Rattle.ot_logic.proofs.TableLemmas.{slice_get-append_left}
 
 abbrev pub is_one : Origin Name → Origin Name → Bool
 is_one = same_origin names.same

@@ -3,17 +3,17 @@ use Rattle.std.specs.Prelude.{not}
 use Rattle.std.specs.List.{AllByRecursion, list_all}
 use Rattle.std.proofs.Common.{◌≡◌, true, List, [], ◌∷◌, map, Ok, refl, sym, ap, subst, ◌∙◌, inl, inr, arith}
 use Rattle.std.proofs.lemmas.Bool.{and_parts}
-use Rattle.ot_plain.specs.Lists.{IsPart, AreDistinct}
-use Rattle.ot_plain.specs.Names.{Name}
-use Rattle.ot_plain.specs.Naming.{names}
-use Rattle.ot_plain.specs.Trees.{Ty, Variable, Tm, App, Abs, Sequent}
-use Rattle.ot_plain.specs.Hol.{same_ty, fun_ty, as_fun_ty, depth_limit, bool_ty, IsWellTyped, type_of, close}
-use Rattle.ot_plain.specs.Hol.{opened, subst_tm, is_free_in_some, sequent_of, is_shallow, is_shallow_sequent}
-use Rattle.ot_plain.specs.Hol.{same_tm, equation, minus, union, once_each, IsSequent, IsTyped, TypeMap, TermMap}
-use Rattle.ot_plain.specs.Faults.{NotBool, NotAlphaEqual, VarFreeInHyps, NotFunction, ArgumentType}
-use Rattle.ot_plain.specs.Answers.{unless, some_or}
-use Rattle.ot_plain.specs.Rules.{has_type, within_limit, sides, refl_rule, assume_rule, eq_mp_rule, abs_thm_rule}
-use Rattle.ot_plain.specs.Rules.{app_thm_rule, deduct_antisym_rule, beta_conv_rule, subst_rule, sym_rule}
+use Rattle.ot_logic.specs.Lists.{IsPart, AreDistinct}
+use Rattle.ot_logic.specs.Names.{Name}
+use Rattle.ot_logic.specs.Naming.{names}
+use Rattle.ot_logic.specs.Trees.{Ty, Variable, Tm, App, Abs, Sequent}
+use Rattle.ot_logic.specs.Hol.{same_ty, fun_ty, as_fun_ty, depth_limit, bool_ty, IsWellTyped, type_of, close}
+use Rattle.ot_logic.specs.Hol.{opened, subst_tm, is_free_in_some, sequent_of, is_shallow, is_shallow_sequent}
+use Rattle.ot_logic.specs.Hol.{same_tm, equation, minus, union, once_each, IsSequent, IsTyped, TypeMap, TermMap}
+use Rattle.ot_logic.specs.Faults.{NotBool, NotAlphaEqual, VarFreeInHyps, NotFunction, ArgumentType}
+use Rattle.ot_logic.specs.Answers.{unless, some_or}
+use Rattle.ot_logic.specs.Rules.{has_type, within_limit, sides, refl_rule, assume_rule, eq_mp_rule, abs_thm_rule}
+use Rattle.ot_logic.specs.Rules.{app_thm_rule, deduct_antisym_rule, beta_conv_rule, subst_rule, sym_rule}
 use Rattle.ot_laws.specs.Theorem.{IsTheorem}
 use Rattle.ot_laws.proofs.Tests.{tells_names}
 use Rattle.ot_laws.proofs.Steps.{limit-ok, within_limit-ok, sides-ok}
@@ -24,7 +24,7 @@ use Rattle.ot_laws.proofs.Sound.{refl_rule-sound, assume_rule-sound, eq_mp_rule-
 use Rattle.ot_laws.proofs.Sound.{abs_thm_rule-sound, app_thm_rule-sound, deduct_antisym_rule-sound}
 use Rattle.ot_laws.proofs.Sound.{beta_conv_rule-sound, subst_rule-sound, sym_rule-sound}
 use Rattle.ot_entries.proofs.Fitting.{Fits, fits-shallow, sides-fit}
-use Rattle.ot_plain.proofs.Results.{bind-ok, same_Ok}
+use Rattle.ot_logic.proofs.Results.{bind-ok, same_Ok}
 
 -- well typed, and within the limit
 pub record IsKeptTerm (t : Tm Name) : Type 0 where

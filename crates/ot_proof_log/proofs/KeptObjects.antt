@@ -1,9 +1,9 @@
 -- Objects that are kept.
 use Rattle.std.proofs.Common.{◌≡◌, ◌≤◌, List, Ok, subst}
-use Rattle.ot_plain.specs.Names.{Name}
-use Rattle.ot_plain.specs.Naming.{names}
-use Rattle.ot_plain.specs.Trees.{Tm}
-use Rattle.ot_plain.specs.Hol.{depth_limit, depth_ty}
+use Rattle.ot_logic.specs.Names.{Name}
+use Rattle.ot_logic.specs.Naming.{names}
+use Rattle.ot_logic.specs.Trees.{Tm}
+use Rattle.ot_logic.specs.Hol.{depth_limit, depth_ty}
 use Rattle.ot_machine.specs.Objects.{Object, Objects, number, name, list, type_op, a_type}
 use Rattle.ot_machine.specs.Objects.{constant, variable, term, theorem, no_objects, more_objects}
 use Rattle.ot_machine.specs.Places.{as_term, as_each}

@@ -5,15 +5,15 @@ use Rattle.std.proofs.Common.{◌≡◌, ℕ, Bool, true, false, List, [], ◌�
 use Rattle.std.proofs.Common.{Ok, Err, refl, sym, ap, subst, ◌∙◌, inl, inr, ◌⊎◌}
 use Rattle.std.proofs.lemmas.Bool.{and_parts}
 use Rattle.std.proofs.lemmas.Option.{same_Some}
-use Rattle.ot_plain.specs.Lists.{IsPart}
-use Rattle.ot_plain.specs.Names.{Name}
-use Rattle.ot_plain.specs.Naming.{names}
-use Rattle.ot_plain.specs.Trees.{Ty, Tm, Sequent}
-use Rattle.ot_plain.specs.Hol.{depth_limit, bool_ty, HasType, type_in, is_in}
-use Rattle.ot_plain.specs.Hol.{equation, minus, union, once_each, as_equation}
-use Rattle.ot_plain.specs.Faults.{Fault, NotBool, NotEquation, NotAlphaEqual}
-use Rattle.ot_plain.specs.Answers.{unless}
-use Rattle.ot_plain.specs.Rules.{has_type, sides, trans_rule, proved_hyp, prove_hyp_rule}
+use Rattle.ot_logic.specs.Lists.{IsPart}
+use Rattle.ot_logic.specs.Names.{Name}
+use Rattle.ot_logic.specs.Naming.{names}
+use Rattle.ot_logic.specs.Trees.{Ty, Tm, Sequent}
+use Rattle.ot_logic.specs.Hol.{depth_limit, bool_ty, HasType, type_in, is_in}
+use Rattle.ot_logic.specs.Hol.{equation, minus, union, once_each, as_equation}
+use Rattle.ot_logic.specs.Faults.{Fault, NotBool, NotEquation, NotAlphaEqual}
+use Rattle.ot_logic.specs.Answers.{unless}
+use Rattle.ot_logic.specs.Rules.{has_type, sides, trans_rule, proved_hyp, prove_hyp_rule}
 use Rattle.ot_laws.proofs.Tests.{tells_names, tm_cases, has_type-is}
 use Rattle.ot_laws.proofs.Equations.{equation-sides}
 use Rattle.ot_laws.proofs.Steps.{sides-ok}
@@ -24,7 +24,7 @@ use Rattle.ot_kernel.specs.Axioms.{axiom_rule}
 use Rattle.ot_entries.specs.Expansions.{trans_entries, prove_hyp_entries, trans_of, prove_hyp_of}
 use Rattle.ot_entries.proofs.Fitting.{Fits, chain-fits}
 use Rattle.ot_proof_log.proofs.Kept.{IsKeptTerm, AllFit, IsKept, fit-part, fit-union, left, right, kept-by}
-use Rattle.ot_plain.proofs.Results.{bind-ok, same_Ok, some_or-ok, unless-ok}
+use Rattle.ot_logic.proofs.Results.{bind-ok, same_Ok, some_or-ok, unless-ok}
 
 -- ---- trans: of a = b and b = d, whichever of both is the lower one
 

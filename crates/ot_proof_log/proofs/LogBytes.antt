@@ -15,9 +15,9 @@ use Rattle.std.proofs.lemmas.Int.Digits.{length-digits_of_step}
 use Rattle.std.proofs.lemmas.Bool.Decides.{nat_tests, eqb_tells}
 use Rattle.std.proofs.lemmas.List.{length-map}
 use Rattle.std.proofs.lemmas.Bool.{and_parts}
-use Rattle.ot_plain.specs.Names.{Name, spelled}
+use Rattle.ot_logic.specs.Names.{Name, spelled}
 use Rattle.ot_lines.specs.Pieces.{pieces}
-use Rattle.ot_plain.specs.Naming.{names}
+use Rattle.ot_logic.specs.Naming.{names}
 use Rattle.ot_scan.specs.Lines.{lines_after, lines_of, limit_fault}
 use Rattle.ot_scan.specs.Words.{is_in_range}
 use Rattle.ot_records.specs.declared.word.RecordWord.{RecordWord}

@@ -3,13 +3,13 @@ use Rattle.std.specs.Prelude.{slice_get}
 use Rattle.std.specs.List.{AllByRecursion, list_all}
 use Rattle.std.proofs.Common.{◌≡◌, ◌≢◌, ℕ, ◌≤◌, true, ◌&&◌, List, [], ◌∷◌}
 use Rattle.std.proofs.Common.{◌++◌, Some, Ok, refl, subst, inl, ◌⊎◌, arith}
-use Rattle.ot_plain.specs.Lists.{AreDistinct}
-use Rattle.ot_plain.specs.Names.{Name}
-use Rattle.ot_plain.specs.Naming.{names}
-use Rattle.ot_plain.specs.Trees.{Ty, Tm, Sequent}
-use Rattle.ot_plain.specs.Hol.{depth_limit, depth_ty, bool_ty, HasType}
-use Rattle.ot_plain.specs.declared.command.Cmd.{Cmd}
-use Rattle.ot_plain.specs.declared.command.Cmd.TheVariants as words
+use Rattle.ot_logic.specs.Lists.{AreDistinct}
+use Rattle.ot_logic.specs.Names.{Name}
+use Rattle.ot_logic.specs.Naming.{names}
+use Rattle.ot_logic.specs.Trees.{Ty, Tm, Sequent}
+use Rattle.ot_logic.specs.Hol.{depth_limit, depth_ty, bool_ty, HasType}
+use Rattle.ot_logic.specs.declared.command.Cmd.{Cmd}
+use Rattle.ot_logic.specs.declared.command.Cmd.TheVariants as words
 use Rattle.ot_laws.proofs.Tests.{tells_names}
 use Rattle.ot_laws.proofs.Typing.{within-typed}
 use Rattle.ot_laws.proofs.Sets.{same_set-self, all-member, all-from_members}
@@ -28,7 +28,7 @@ use Rattle.ot_entries.proofs.Sequents.{Feeds, sequent-stands}
 use Rattle.ot_entries.proofs.Several.{MakesAll}
 use Rattle.ot_proof_log.proofs.Kept.{IsKept, fit-part}
 use Rattle.ot_proof_log.proofs.Told.{AreNodes, IsEntry, AreEntries, term-told, type-told}
-use Rattle.ot_plain.proofs.Elements.{slice_get-low}
+use Rattle.ot_logic.proofs.Elements.{slice_get-low}
 
 -- ---- kept sequents are within the limit of a log
 

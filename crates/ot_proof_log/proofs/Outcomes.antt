@@ -2,15 +2,15 @@
 use Rattle.std.specs.Prelude.{slice_get}
 use Rattle.std.proofs.Common.{◌≡◌, ℕ, zero, suc, ◌+◌, ◌<◌, List, [], ◌∷◌, ◌++◌, length, Some, Ok, refl, sym}
 use Rattle.std.proofs.Common.{ap, subst, ◌∙◌, inl, inr, arith, append_assoc, append-nil, length-append}
-use Rattle.ot_plain.specs.Lists.{IsMember}
-use Rattle.ot_plain.specs.Names.{Name}
-use Rattle.ot_plain.specs.Naming.{names}
-use Rattle.ot_plain.specs.Trees.{Tm, Free, Con, Bound, App, Abs, Sequent, Definition, ConDef, ListDef, TyDef}
-use Rattle.ot_plain.specs.Hol.{theorems, theorems_at}
-use Rattle.ot_plain.specs.Faults.{StackEmpty, HypothesesPresent, NotApplication}
-use Rattle.ot_plain.specs.Answers.{◌>>=◌, unless, some_or}
-use Rattle.ot_plain.specs.declared.command.Cmd.{Cmd}
-use Rattle.ot_plain.specs.declared.command.Cmd.TheVariants as words
+use Rattle.ot_logic.specs.Lists.{IsMember}
+use Rattle.ot_logic.specs.Names.{Name}
+use Rattle.ot_logic.specs.Naming.{names}
+use Rattle.ot_logic.specs.Trees.{Tm, Free, Con, Bound, App, Abs, Sequent, Definition, ConDef, ListDef, TyDef}
+use Rattle.ot_logic.specs.Hol.{theorems, theorems_at}
+use Rattle.ot_logic.specs.Faults.{StackEmpty, HypothesesPresent, NotApplication}
+use Rattle.ot_logic.specs.Answers.{◌>>=◌, unless, some_or}
+use Rattle.ot_logic.specs.declared.command.Cmd.{Cmd}
+use Rattle.ot_logic.specs.declared.command.Cmd.TheVariants as words
 use Rattle.ot_laws.specs.Conditions.{is_empty, function_of}
 use Rattle.ot_trace.specs.Origins.{Origin, Origins, Make, Define, Outcome}
 use Rattle.ot_written.specs.Written.{theorem_count}
@@ -20,7 +20,7 @@ use Rattle.ot_machine.specs.Lawful.{IsAxiom}
 use Rattle.ot_article.proofs.FromLawful.{get-middle}
 use Rattle.ot_proof_log.specs.Writing.{Written, mark, outcomes, add_outcomes}
 use Rattle.ot_proof_log.proofs.Defining.{IsDefining, ByConst, ByList, ByType}
-use Rattle.ot_plain.proofs.Results.{bind-ok, some_or-ok}
+use Rattle.ot_logic.proofs.Results.{bind-ok, some_or-ok}
 
 -- ---- the numbers
 

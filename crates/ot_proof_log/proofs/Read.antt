@@ -2,13 +2,13 @@
 use Rattle.std.specs.Prelude.{if◌then◌else◌}
 use Rattle.std.specs.List.{AllByRecursion}
 use Rattle.std.proofs.Common.{◌≡◌, Bool, true, false, List, [], ◌∷◌, ◌++◌, Result, Ok, subst}
-use Rattle.ot_plain.specs.Names.{Name}
-use Rattle.ot_plain.specs.Naming.{names}
-use Rattle.ot_plain.specs.Trees.{Ty, Variable, Tm}
-use Rattle.ot_plain.specs.Hol.{TypeMap, TermMap, IsTyped}
-use Rattle.ot_plain.specs.Faults.{Fault, BadSubst, BadDefinitionList}
-use Rattle.ot_plain.specs.Answers.{◌>>=◌, unless}
-use Rattle.ot_plain.specs.Rules.{has_type}
+use Rattle.ot_logic.specs.Names.{Name}
+use Rattle.ot_logic.specs.Naming.{names}
+use Rattle.ot_logic.specs.Trees.{Ty, Variable, Tm}
+use Rattle.ot_logic.specs.Hol.{TypeMap, TermMap, IsTyped}
+use Rattle.ot_logic.specs.Faults.{Fault, BadSubst, BadDefinitionList}
+use Rattle.ot_logic.specs.Answers.{◌>>=◌, unless}
+use Rattle.ot_logic.specs.Rules.{has_type}
 use Rattle.ot_laws.proofs.Tests.{tells_names, has_type-is}
 use Rattle.ot_kernel.specs.Pairs.{with_type, with_term}
 use Rattle.ot_machine.specs.Objects.{Object, Objects, name, list, a_type, variable, term, no_objects, more_objects}
@@ -17,8 +17,8 @@ use Rattle.ot_machine.specs.Parts.{or_bad, two_of}
 use Rattle.ot_machine.specs.Substitutions.{type_pair, term_pair, types_onto, terms_onto, maps_of}
 use Rattle.ot_machine.specs.DefinitionLists.{definition_pair, pairs_of}
 use Rattle.ot_machine.proofs.ObjectKinds.{name-is, list-is, type-is, variable-is, term-is, or_bad-is}
-use Rattle.ot_plain.proofs.Elements.{AllByRecursion-append}
-use Rattle.ot_plain.proofs.Results.{bind-ok, same_Ok, unless-ok}
+use Rattle.ot_logic.proofs.Elements.{AllByRecursion-append}
+use Rattle.ot_logic.proofs.Results.{bind-ok, same_Ok, unless-ok}
 
 all-if : {A : Type 0} (Q : A → Type 0) (c : Bool) (xs ys : List A) → AllByRecursion Q xs → AllByRecursion Q ys
     → AllByRecursion Q (if c then xs else ys)

@@ -1,10 +1,10 @@
 -- The logs of small runs.
 use Rattle.std.specs.Prelude.{codes}
 use Rattle.std.proofs.Common.{◌≡◌, ℕ, List, [], ◌∷◌, refl}
-use Rattle.ot_plain.specs.Names.{Name}
-use Rattle.ot_plain.specs.declared.command.Cmd.{Cmd}
-use Rattle.ot_plain.specs.declared.command.Cmd.TheVariants.{Nil, Cons, TypeOp, OpType, Var, VarTerm, Const}
-use Rattle.ot_plain.specs.declared.command.Cmd.TheVariants.{ConstTerm, Assume, Axiom, ProveHyp, DefineConst}
+use Rattle.ot_logic.specs.Names.{Name}
+use Rattle.ot_logic.specs.declared.command.Cmd.{Cmd}
+use Rattle.ot_logic.specs.declared.command.Cmd.TheVariants.{Nil, Cons, TypeOp, OpType, Var, VarTerm, Const}
+use Rattle.ot_logic.specs.declared.command.Cmd.TheVariants.{ConstTerm, Assume, Axiom, ProveHyp, DefineConst}
 use Rattle.ot_trace.specs.Origins.{Origin, Named, Make, Define, Outcome, NoOrigins, MoreOrigins, Roots}
 use Rattle.ot_records.specs.Tokens.{Token, Number, Word}
 use Rattle.ot_records.specs.Tokens as token

@@ -2,11 +2,11 @@
 use Rattle.std.specs.List.{All}
 use Rattle.std.proofs.Common.{◌≡◌, ℕ, ◌≤◌, ◌<◌, ◌^◌, Bool, true, List, [], ◌∷◌, map}
 use Rattle.std.proofs.Common.{length, take, Ok, refl, sym, ap, subst, ◌∙◌, inl, inr}
-use Rattle.ot_plain.specs.Lists.{IsMember}
-use Rattle.ot_plain.specs.Names.{Name}
-use Rattle.ot_plain.specs.Naming.{names}
-use Rattle.ot_plain.specs.Trees.{Sequent}
-use Rattle.ot_plain.specs.Hol.{same_sequent}
+use Rattle.ot_logic.specs.Lists.{IsMember}
+use Rattle.ot_logic.specs.Names.{Name}
+use Rattle.ot_logic.specs.Naming.{names}
+use Rattle.ot_logic.specs.Trees.{Sequent}
+use Rattle.ot_logic.specs.Hol.{same_sequent}
 use Rattle.ot_records.specs.State.{LogState, nothing_made}
 use Rattle.ot_records.specs.Check.{Ends, check_log}
 use Rattle.ot_trace.specs.Origins.{Origin, Define, Outcome}
@@ -41,8 +41,8 @@ use Rattle.ot_proof_log.proofs.Free.{defining-plain, terms-free}
 use Rattle.ot_proof_log.proofs.AxiomsReached.{AxiomsReached, definitions-reached, results-reached}
 use Rattle.ot_proof_log.proofs.AllWritten.{IsPremised, IsGood, theorem-written}
 use Rattle.ot_proof_log.proofs.LogBytes.{bytes-read}
-use Rattle.ot_plain.proofs.Members.{All-at_member, IsMember-map, IsMember-map_back}
-use Rattle.ot_plain.proofs.Results.{bind-ok}
+use Rattle.ot_logic.proofs.Members.{All-at_member, IsMember-map, IsMember-map_back}
+use Rattle.ot_logic.proofs.Results.{bind-ok}
 
 nothing-holds : Holds nothing_written nothing_made
 nothing-holds = record {

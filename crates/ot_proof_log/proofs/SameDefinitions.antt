@@ -4,16 +4,16 @@ use Rattle.std.specs.List.{list_all}
 use Rattle.std.specs.Option.{option_map, option_and_then}
 use Rattle.std.proofs.Common.{◌≡◌, ℕ, Bool, List, [], ◌∷◌, ◌++◌, map, length, Option, Some}
 use Rattle.std.proofs.Common.{None, Result, Ok, refl, sym, ap, subst, ◌∙◌, inl, inr, ◌⊎◌, arith}
-use Rattle.ot_plain.specs.Lists.{IsMember, IsPart, IsSameSet, AreDistinct}
-use Rattle.ot_plain.specs.Names.{Name}
-use Rattle.ot_plain.specs.Naming.{names}
-use Rattle.ot_plain.specs.Trees.{Variable, Tm, Sequent, Symbol, ConSymbol}
-use Rattle.ot_plain.specs.Trees.{OpSymbol, Definition, ConDef, ListDef, TyDef}
-use Rattle.ot_plain.specs.Hol.{same_var, as_equation, symbols_tm, symbols_all, symbols_of}
-use Rattle.ot_plain.specs.Hol.{symbols_in, defined, used, theorems, vars_tm, primitives}
-use Rattle.ot_plain.specs.Faults.{Fault, Primitive, SymbolInUse, BadDefinitionList, HypothesesPresent}
-use Rattle.ot_plain.specs.Faults.{NotApplication, BadTypeVars, NotClosed, TypeVarEscapes}
-use Rattle.ot_plain.specs.Answers.{◌>>=◌, unless, some_or}
+use Rattle.ot_logic.specs.Lists.{IsMember, IsPart, IsSameSet, AreDistinct}
+use Rattle.ot_logic.specs.Names.{Name}
+use Rattle.ot_logic.specs.Naming.{names}
+use Rattle.ot_logic.specs.Trees.{Variable, Tm, Sequent, Symbol, ConSymbol}
+use Rattle.ot_logic.specs.Trees.{OpSymbol, Definition, ConDef, ListDef, TyDef}
+use Rattle.ot_logic.specs.Hol.{same_var, as_equation, symbols_tm, symbols_all, symbols_of}
+use Rattle.ot_logic.specs.Hol.{symbols_in, defined, used, theorems, vars_tm, primitives}
+use Rattle.ot_logic.specs.Faults.{Fault, Primitive, SymbolInUse, BadDefinitionList, HypothesesPresent}
+use Rattle.ot_logic.specs.Faults.{NotApplication, BadTypeVars, NotClosed, TypeVarEscapes}
+use Rattle.ot_logic.specs.Answers.{◌>>=◌, unless, some_or}
 use Rattle.ot_laws.specs.Conditions.{is_among, refuse_first, refuse_defined, checked_symbols, checked_const}
 use Rattle.ot_laws.specs.Conditions.{checked_list, checked_type, are_distinct, only, given_by, given, terms_given}
 use Rattle.ot_laws.specs.Conditions.{is_empty, function_of, are_names_of, is_closed, is_closed_but, keeps_type_vars}
@@ -21,14 +21,14 @@ use Rattle.ot_laws.proofs.Tests.{tells_names}
 use Rattle.ot_laws.proofs.Steps.{and_then-some}
 use Rattle.ot_laws.proofs.Membership.{is_among-same_set}
 use Rattle.ot_laws.proofs.Sets.{same_set-self, same_set-append}
-use Rattle.ot_plain.proofs.Members.{distinct-length}
+use Rattle.ot_logic.proofs.Members.{distinct-length}
 use Rattle.ot_laws.proofs.Hypotheses.{same_sequent-is}
 use Rattle.ot_kernel.specs.Defining.{all_defined, all_used}
 use Rattle.ot_machine.specs.States.{Made}
 use Rattle.ot_machine.specs.Rows.{definitions_of}
 use Rattle.ot_proof_log.specs.Checked.{AreSame, IsDefinitionOf}
-use Rattle.ot_plain.proofs.Members.{IsMember-cases, IsMember-left, IsMember-right}
-use Rattle.ot_plain.proofs.Results.{bind-ok, some_or-ok}
+use Rattle.ot_logic.proofs.Members.{IsMember-cases, IsMember-left, IsMember-right}
+use Rattle.ot_logic.proofs.Results.{bind-ok, some_or-ok}
 
 -- ---- symbols
 

@@ -3,14 +3,14 @@ use Rattle.std.specs.Prelude.{slice_get}
 use Rattle.std.specs.List.{AllByRecursion}
 use Rattle.std.proofs.Common.{◌≡◌, ℕ, ◌+◌, true, List, [], ◌∷◌, ◌++◌, Some}
 use Rattle.std.proofs.Common.{Ok, refl, sym, ap, subst, ◌∙◌, inl, inr, arith}
-use Rattle.ot_plain.specs.Lists.{IsSameSet, AreDistinct}
-use Rattle.ot_plain.specs.Names.{Name}
-use Rattle.ot_plain.specs.Naming.{names}
-use Rattle.ot_plain.specs.Trees.{Ty, Tm, App, Sequent}
-use Rattle.ot_plain.specs.Hol.{depth_limit, fun_ty, bool_ty, as_equation, HasType, equation, union, minus, sequent_of}
-use Rattle.ot_plain.specs.Rules.{sides, sym_rule, trans_rule, prove_hyp_rule, proved_hyp}
-use Rattle.ot_plain.specs.Faults.{NotEquation}
-use Rattle.ot_plain.specs.declared.command.Cmd.TheVariants as words
+use Rattle.ot_logic.specs.Lists.{IsSameSet, AreDistinct}
+use Rattle.ot_logic.specs.Names.{Name}
+use Rattle.ot_logic.specs.Naming.{names}
+use Rattle.ot_logic.specs.Trees.{Ty, Tm, App, Sequent}
+use Rattle.ot_logic.specs.Hol.{depth_limit, fun_ty, bool_ty, as_equation, HasType, equation, union, minus, sequent_of}
+use Rattle.ot_logic.specs.Rules.{sides, sym_rule, trans_rule, prove_hyp_rule, proved_hyp}
+use Rattle.ot_logic.specs.Faults.{NotEquation}
+use Rattle.ot_logic.specs.declared.command.Cmd.TheVariants as words
 use Rattle.ot_laws.proofs.Tests.{tells_names}
 use Rattle.ot_laws.proofs.Typing.{app-typed}
 use Rattle.ot_laws.proofs.Equations.{equation-sides}
@@ -35,7 +35,7 @@ use Rattle.ot_proof_log.proofs.Kept.{IsKept, AllFit}
 use Rattle.ot_proof_log.proofs.KeptWords.{IsChain, chain-of, lemma-of}
 use Rattle.ot_proof_log.proofs.Makes.{sequent-within, term-named, number-low, Makes, makes-all, kept-same}
 use Rattle.ot_proof_log.proofs.Singles.{Nodes, nodes-then, no-nodes}
-use Rattle.ot_plain.proofs.Results.{bind-ok, some_or-ok}
+use Rattle.ot_logic.proofs.Results.{bind-ok, some_or-ok}
 
 abbrev wide : ℕ
 wide = depth_limit + 2

@@ -4,15 +4,15 @@ use Rattle.std.specs.List.{AllByRecursion, flat_map, list_all}
 use Rattle.std.proofs.Common.{◌≡◌, ◌≢◌, ℕ, suc, ◌≤◌, true, ◌&&◌, List, [], ◌∷◌, ◌++◌, map}
 use Rattle.std.proofs.Common.{length, Some, Ok, refl, sym, ap, subst, inr, arith, length-append}
 use Rattle.std.proofs.lemmas.Bool.{and_from}
-use Rattle.ot_plain.specs.Names.{Name}
-use Rattle.ot_plain.specs.Naming.{names}
-use Rattle.ot_plain.specs.Trees.{Ty, Variable, Tm, Sequent}
-use Rattle.ot_plain.specs.Hol.{depth_limit, depth_ty, bool_ty, HasType}
-use Rattle.ot_plain.specs.Hol.{TypeMap, TermMap, IsTyped, once_each}
-use Rattle.ot_plain.specs.Answers.{◌>>=◌, unless}
-use Rattle.ot_plain.specs.Rules.{abs_thm_rule, subst_rule}
-use Rattle.ot_plain.specs.declared.command.Cmd.{Cmd}
-use Rattle.ot_plain.specs.declared.command.Cmd.TheVariants as words
+use Rattle.ot_logic.specs.Names.{Name}
+use Rattle.ot_logic.specs.Naming.{names}
+use Rattle.ot_logic.specs.Trees.{Ty, Variable, Tm, Sequent}
+use Rattle.ot_logic.specs.Hol.{depth_limit, depth_ty, bool_ty, HasType}
+use Rattle.ot_logic.specs.Hol.{TypeMap, TermMap, IsTyped, once_each}
+use Rattle.ot_logic.specs.Answers.{◌>>=◌, unless}
+use Rattle.ot_logic.specs.Rules.{abs_thm_rule, subst_rule}
+use Rattle.ot_logic.specs.declared.command.Cmd.{Cmd}
+use Rattle.ot_logic.specs.declared.command.Cmd.TheVariants as words
 use Rattle.ot_laws.proofs.Tests.{tells_names, has_type-is}
 use Rattle.ot_laws.proofs.Sets.{same_set-then, same_set-both_ways, all-member, all-from_members}
 use Rattle.ot_laws.proofs.Hypotheses.{same_set-once_each, distinct-once_each}
@@ -42,7 +42,7 @@ use Rattle.ot_proof_log.proofs.Told.{AreNodes, AreOperands}
 use Rattle.ot_proof_log.proofs.Texts.{by_text-same, by_text-bool}
 use Rattle.ot_proof_log.proofs.Makes.{type-named, term-named, number-low, Makes}
 use Rattle.ot_proof_log.proofs.Makes.{makes-one, same-refl, kept-within, kept-same}
-use Rattle.ot_plain.proofs.Elements.{AllByRecursion-append}
+use Rattle.ot_logic.proofs.Elements.{AllByRecursion-append}
 
 pub more-fits : (t : Tm Name) → Fits names depth_limit t → Fits names log_depth t
 more-fits t f = fits-more names depth_limit log_depth (omega arith) t f

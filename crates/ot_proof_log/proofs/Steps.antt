@@ -1,15 +1,15 @@
 -- What a word makes a theorem of: the values of its operands, and the rule.
 use Rattle.std.proofs.Common.{◌≡◌, true, List, [], ◌∷◌, Result, Ok, refl, sym, ap, ◌∙◌}
-use Rattle.ot_plain.specs.Names.{Name}
-use Rattle.ot_plain.specs.Naming.{names}
-use Rattle.ot_plain.specs.Trees.{Variable, Tm, Sequent}
-use Rattle.ot_plain.specs.Hol.{TypeMap, TermMap}
-use Rattle.ot_plain.specs.Faults.{Fault}
-use Rattle.ot_plain.specs.Answers.{◌>>=◌}
-use Rattle.ot_plain.specs.Rules.{refl_rule, assume_rule, eq_mp_rule, abs_thm_rule, app_thm_rule, deduct_antisym_rule}
-use Rattle.ot_plain.specs.Rules.{beta_conv_rule, subst_rule, sym_rule, trans_rule, prove_hyp_rule}
-use Rattle.ot_plain.specs.declared.command.Cmd.{Cmd}
-use Rattle.ot_plain.specs.declared.command.Cmd.TheVariants as words
+use Rattle.ot_logic.specs.Names.{Name}
+use Rattle.ot_logic.specs.Naming.{names}
+use Rattle.ot_logic.specs.Trees.{Variable, Tm, Sequent}
+use Rattle.ot_logic.specs.Hol.{TypeMap, TermMap}
+use Rattle.ot_logic.specs.Faults.{Fault}
+use Rattle.ot_logic.specs.Answers.{◌>>=◌}
+use Rattle.ot_logic.specs.Rules.{refl_rule, assume_rule, eq_mp_rule, abs_thm_rule, app_thm_rule, deduct_antisym_rule}
+use Rattle.ot_logic.specs.Rules.{beta_conv_rule, subst_rule, sym_rule, trans_rule, prove_hyp_rule}
+use Rattle.ot_logic.specs.declared.command.Cmd.{Cmd}
+use Rattle.ot_logic.specs.declared.command.Cmd.TheVariants as words
 use Rattle.ot_kernel.specs.Axioms.{axiom_rule}
 use Rattle.ot_machine.specs.Objects.{Object, Objects, list, variable, term, theorem}
 use Rattle.ot_machine.specs.Places.{as_list, as_variable, as_term, as_theorem, as_each}
@@ -19,7 +19,7 @@ use Rattle.ot_machine.specs.Makers.{axiom_made, one_theorem_made, two_theorems_m
 use Rattle.ot_machine.proofs.ObjectKinds.{list-is, variable-is, term-is, theorem-is}
 use Rattle.ot_article.proofs.Operands.{made_of}
 use Rattle.ot_proof_log.specs.Derived.{makes_theorem}
-use Rattle.ot_plain.proofs.Results.{bind-ok, same_Ok}
+use Rattle.ot_logic.proofs.Results.{bind-ok, same_Ok}
 
 -- ---- exactly as many operands
 

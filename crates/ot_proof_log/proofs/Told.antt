@@ -4,10 +4,10 @@ use Rattle.std.specs.List.{AllByRecursion}
 use Rattle.std.proofs.Common.{◌≡◌, ℕ, suc, ◌+◌, ◌≤◌, Bool, true, false, List, [], ◌∷◌, ◌++◌, map, length}
 use Rattle.std.proofs.Common.{refl, sym, ap, subst, ◌∙◌, arith, length-append, append-nil, inl, inr, ◌⊎◌}
 use Rattle.std.proofs.lemmas.List.{length-map}
-use Rattle.ot_plain.specs.Names.{Name}
-use Rattle.ot_plain.specs.Naming.{names}
-use Rattle.ot_plain.specs.Trees.{Ty, Tys, TyVar, TyOp, NoTys, MoreTys, Tm, Free, Con, Bound, App, Abs}
-use Rattle.ot_plain.specs.Hol.{depth_tm, IsWithin, same_ty, same_tm}
+use Rattle.ot_logic.specs.Names.{Name}
+use Rattle.ot_logic.specs.Naming.{names}
+use Rattle.ot_logic.specs.Trees.{Ty, Tys, TyVar, TyOp, NoTys, MoreTys, Tm, Free, Con, Bound, App, Abs}
+use Rattle.ot_logic.specs.Hol.{depth_tm, IsWithin, same_ty, same_tm}
 use Rattle.ot_records.specs.declared.word.RecordWord.{RecordWord}
 use Rattle.ot_records.specs.Tokens.{Token, Number, Named, Word, spelling}
 use Rattle.ot_records.specs.Steps.{log_depth}
@@ -17,7 +17,7 @@ use Rattle.ot_entries.specs.Entries.{TypeNode, TermNode, type_list, type_count, 
 use Rattle.ot_entries.specs.Entries.{types_nodes, type_nodes, term_parts, term_nodes, nodes_before}
 use Rattle.ot_entries.specs.Logged.{Log, header, put, token_of, has_node, with_node, write_node}
 use Rattle.ot_entries.specs.Logged.{write_nodes, write_entry, count_sequent, write_sequents}
-use Rattle.ot_plain.proofs.Elements.{AllByRecursion-append, position-bound}
+use Rattle.ot_logic.proofs.Elements.{AllByRecursion-append, position-bound}
 
 -- a word of a log
 abbrev pub IsWord : List ℕ → Type 0

@@ -5,15 +5,15 @@ use Rattle.std.proofs.Common.{◌≡◌, ℕ, zero, suc, ◌≤◌, true, List, 
 use Rattle.std.proofs.Common.{slice_get, Some, Ok, refl, sym, subst, arith}
 use Rattle.std.proofs.lemmas.Bool.{leb-true}
 use Rattle.std.proofs.lemmas.Option.{same_Some}
-use Rattle.ot_plain.specs.Names.{Name}
-use Rattle.ot_plain.specs.Naming.{names}
-use Rattle.ot_plain.specs.Trees.{Ty, TyVar, Tm, Free, Con, Sequent, Definition}
-use Rattle.ot_plain.specs.Hol.{depth_limit, depth_ty, HasType, theorems}
-use Rattle.ot_plain.specs.Faults.{StackEmpty, Nesting}
-use Rattle.ot_plain.specs.Answers.{◌>>=◌, some_or}
-use Rattle.ot_plain.specs.Rules.{op_rule, app_rule, abs_rule}
-use Rattle.ot_plain.specs.declared.command.Cmd.{Cmd}
-use Rattle.ot_plain.specs.declared.command.Cmd.TheVariants as words
+use Rattle.ot_logic.specs.Names.{Name}
+use Rattle.ot_logic.specs.Naming.{names}
+use Rattle.ot_logic.specs.Trees.{Ty, TyVar, Tm, Free, Con, Sequent, Definition}
+use Rattle.ot_logic.specs.Hol.{depth_limit, depth_ty, HasType, theorems}
+use Rattle.ot_logic.specs.Faults.{StackEmpty, Nesting}
+use Rattle.ot_logic.specs.Answers.{◌>>=◌, some_or}
+use Rattle.ot_logic.specs.Rules.{op_rule, app_rule, abs_rule}
+use Rattle.ot_logic.specs.declared.command.Cmd.{Cmd}
+use Rattle.ot_logic.specs.declared.command.Cmd.TheVariants as words
 use Rattle.ot_laws.proofs.Tests.{tells_names}
 use Rattle.ot_laws.proofs.Steps.{limit-ok, op_rule-ok, app_rule-ok, abs_rule-ok}
 use Rattle.ot_trace.specs.Origins.{Origin, Origins, Number, Named, Make, Define, Outcome, NoOrigins, MoreOrigins}
@@ -37,7 +37,7 @@ use Rattle.ot_proof_log.proofs.Steps.{step-of, one-of, two-of}
 use Rattle.ot_proof_log.proofs.Read.{maps-typed}
 use Rattle.ot_proof_log.proofs.Defining.{defining-of, defined-kept}
 use Rattle.ot_proof_log.proofs.KeptObjects.{IsKeptObject, each-term}
-use Rattle.ot_plain.proofs.Results.{bind-ok, same_Ok, some_or-ok}
+use Rattle.ot_logic.proofs.Results.{bind-ok, same_Ok, some_or-ok}
 
 abbrev pub Each : List Object → Type 0
 Each = AllByRecursion IsKeptObject

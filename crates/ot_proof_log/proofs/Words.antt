@@ -2,12 +2,12 @@
 use Rattle.std.specs.Prelude.{slice_get}
 use Rattle.std.specs.List.{AllByRecursion}
 use Rattle.std.proofs.Common.{◌≡◌, ◌≢◌, ℕ, List, [], ◌∷◌, Some, Ok, refl, sym, ap, subst, ◌∙◌}
-use Rattle.ot_plain.specs.Names.{Name}
-use Rattle.ot_plain.specs.Naming.{names}
-use Rattle.ot_plain.specs.Trees.{Tm, Sequent}
-use Rattle.ot_plain.specs.Hol.{TypeMap, TermMap}
-use Rattle.ot_plain.specs.declared.command.Cmd.{Cmd}
-use Rattle.ot_plain.specs.declared.command.Cmd.TheVariants as words
+use Rattle.ot_logic.specs.Names.{Name}
+use Rattle.ot_logic.specs.Naming.{names}
+use Rattle.ot_logic.specs.Trees.{Tm, Sequent}
+use Rattle.ot_logic.specs.Hol.{TypeMap, TermMap}
+use Rattle.ot_logic.specs.declared.command.Cmd.{Cmd}
+use Rattle.ot_logic.specs.declared.command.Cmd.TheVariants as words
 use Rattle.ot_laws.proofs.Tests.{tells_names}
 use Rattle.ot_records.specs.declared.word.RecordWord.{RecordWord}
 use Rattle.ot_records.specs.declared.word.RecordWord.TheVariants as records

@@ -3,12 +3,12 @@ use Rattle.std.specs.Prelude.{◌-◌}
 use Rattle.std.specs.List.{AllByRecursion}
 use Rattle.std.proofs.Common.{◌≡◌, ℕ, true, false, Bool, cond, List, [], ◌∷◌, ◌++◌, Option}
 use Rattle.std.proofs.Common.{Some, None, Result, Ok, refl, sym, ap, subst, ◌∙◌, inl}
-use Rattle.ot_plain.specs.Names.{Name}
-use Rattle.ot_plain.specs.Naming.{names}
-use Rattle.ot_plain.specs.Trees.{Sequent}
-use Rattle.ot_plain.specs.declared.command.Cmd.{Cmd}
-use Rattle.ot_plain.specs.declared.command.Cmd.TheVariants as words
-use Rattle.ot_plain.specs.declared.kind.Kind.TheVariants as kinds
+use Rattle.ot_logic.specs.Names.{Name}
+use Rattle.ot_logic.specs.Naming.{names}
+use Rattle.ot_logic.specs.Trees.{Sequent}
+use Rattle.ot_logic.specs.declared.command.Cmd.{Cmd}
+use Rattle.ot_logic.specs.declared.command.Cmd.TheVariants as words
+use Rattle.ot_logic.specs.declared.kind.Kind.TheVariants as kinds
 use Rattle.ot_trace.specs.Origins.{Origin, Origins, Number, Named, Make, Define, Outcome, NoOrigins, MoreOrigins}
 use Rattle.ot_records.specs.State.{LogState}
 use Rattle.ot_written.proofs.Settled.{EachOutcome, EachOutcomes, IsTheoremOf}
@@ -34,8 +34,8 @@ use Rattle.ot_proof_log.proofs.Makes.{Numbers}
 use Rattle.ot_proof_log.proofs.Words.{word-makes}
 use Rattle.ot_proof_log.proofs.Holds.{number-member, member-number, Has, HasTheorem, HasAll}
 use Rattle.ot_proof_log.proofs.Holds.{theorem-kept, IsProvedAt, Holds, put_as, Goes, goes-none, put-goes}
-use Rattle.ot_plain.proofs.Members.{IsMember-right}
-use Rattle.ot_plain.proofs.Results.{bind-ok, same_Ok}
+use Rattle.ot_logic.proofs.Members.{IsMember-right}
+use Rattle.ot_logic.proofs.Results.{bind-ok, same_Ok}
 
 -- ---- a word that makes no theorem
 

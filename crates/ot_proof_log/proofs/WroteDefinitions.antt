@@ -3,13 +3,13 @@ use Rattle.std.specs.Prelude.{slice_get}
 use Rattle.std.specs.List.{AllByRecursion}
 use Rattle.std.proofs.Common.{◌≡◌, ℕ, suc, ◌+◌, ◌<◌, ◌≤◌, Bool, List, [], ◌∷◌, ◌++◌, length, Ok}
 use Rattle.std.proofs.Common.{refl, sym, ap, subst, ◌∙◌, inl, inr, arith, append-nil, append_assoc}
-use Rattle.ot_plain.specs.Lists.{IsMember}
-use Rattle.ot_plain.specs.Names.{Name}
-use Rattle.ot_plain.specs.Naming.{names}
-use Rattle.ot_plain.specs.Trees.{Sequent, Definition}
-use Rattle.ot_plain.specs.Hol.{theorems}
-use Rattle.ot_plain.specs.declared.command.Cmd.{Cmd}
-use Rattle.ot_plain.specs.declared.command.Cmd.TheVariants as words
+use Rattle.ot_logic.specs.Lists.{IsMember}
+use Rattle.ot_logic.specs.Names.{Name}
+use Rattle.ot_logic.specs.Naming.{names}
+use Rattle.ot_logic.specs.Trees.{Sequent, Definition}
+use Rattle.ot_logic.specs.Hol.{theorems}
+use Rattle.ot_logic.specs.declared.command.Cmd.{Cmd}
+use Rattle.ot_logic.specs.declared.command.Cmd.TheVariants as words
 use Rattle.ot_laws.proofs.Sets.{all-member}
 use Rattle.ot_records.specs.State.{LogState}
 use Rattle.ot_trace.specs.Origins.{Origin, Origins, Make, Define, Outcome}
@@ -43,9 +43,9 @@ use Rattle.ot_proof_log.proofs.SameDefinitions.{AreMade, theorems-same, made-sno
 use Rattle.ot_proof_log.proofs.Defines.{Defines, word-defines}
 use Rattle.ot_proof_log.proofs.Outcomes.{numbered, added-theorems, added-log, HaveValues}
 use Rattle.ot_proof_log.proofs.Outcomes.{values-long, numbered-at, outcome-values, outcome-numbered}
-use Rattle.ot_plain.proofs.Members.{IsMember-cases, IsMember-left, IsMember-right}
-use Rattle.ot_plain.proofs.Results.{bind-ok}
-use Rattle.ot_plain.proofs.TableLemmas.{slice_get-append_left}
+use Rattle.ot_logic.proofs.Members.{IsMember-cases, IsMember-left, IsMember-right}
+use Rattle.ot_logic.proofs.Results.{bind-ok}
+use Rattle.ot_logic.proofs.TableLemmas.{slice_get-append_left}
 use Rattle.std.proofs.lemmas.List.{map_push}
 
 outcomes-short : (w : Cmd) (d : Origin Name) → length (outcomes w d) ≤ 2

@@ -2,11 +2,11 @@
 use Rattle.std.specs.Prelude.{slice_get}
 use Rattle.std.proofs.Common.{◌≡◌, true, Bool, List, [], ◌∷◌, ◌++◌, map, length, Ok, refl}
 use Rattle.std.proofs.Common.{sym, ap, subst, ◌∙◌, inl, inr, arith, append_assoc, append-nil}
-use Rattle.ot_plain.specs.Lists.{IsMember}
-use Rattle.ot_plain.specs.Names.{Name}
-use Rattle.ot_plain.specs.Naming.{names}
-use Rattle.ot_plain.specs.Trees.{Sequent}
-use Rattle.ot_plain.specs.Hol.{same_sequent}
+use Rattle.ot_logic.specs.Lists.{IsMember}
+use Rattle.ot_logic.specs.Names.{Name}
+use Rattle.ot_logic.specs.Naming.{names}
+use Rattle.ot_logic.specs.Trees.{Sequent}
+use Rattle.ot_logic.specs.Hol.{same_sequent}
 use Rattle.ot_records.specs.State.{LogState, kept_once}
 use Rattle.ot_trace.specs.Origins.{Origin}
 use Rattle.ot_written.proofs.Settled.{EachOutcome, IsTheoremOf}
@@ -26,9 +26,9 @@ use Rattle.ot_proof_log.proofs.Makes.{number-low}
 use Rattle.ot_proof_log.proofs.Holds.{number-member, member-number, Has, Keeps, Holds}
 use Rattle.ot_proof_log.proofs.Wrote.{b, HasOutcomes, outcomes-kept, proved-value, write-writes}
 use Rattle.ot_proof_log.proofs.SameDefinitions.{AreMade}
-use Rattle.ot_plain.proofs.Elements.{slice_get-low}
-use Rattle.ot_plain.proofs.Members.{IsMember-cases, IsMember-place}
-use Rattle.ot_plain.proofs.TableLemmas.{slice_get-append_left}
+use Rattle.ot_logic.proofs.Elements.{slice_get-low}
+use Rattle.ot_logic.proofs.Members.{IsMember-cases, IsMember-place}
+use Rattle.ot_logic.proofs.TableLemmas.{slice_get-append_left}
 
 abbrev pub AreResults : List (Sequent Name) → List Export → Type 0
 AreResults = AreSame (λ q (e : Export). IsSequentOf q e.sequent)

@@ -1,11 +1,11 @@
 -- What the check of the log of a run ends with.
 use Rattle.std.specs.Prelude.{◌≡◌, ◌≤◌, ◌<◌, ◌^◌, ℕ, true, List, [], ◌∷◌, map, length}
 use Rattle.std.specs.List.{All}
-use Rattle.ot_plain.specs.Lists.{IsMember}
-use Rattle.ot_plain.specs.Names.{Name}
-use Rattle.ot_plain.specs.Naming.{names}
-use Rattle.ot_plain.specs.Trees.{Sequent, Definition, ListDef, TyDef}
-use Rattle.ot_plain.specs.Hol.{same_sequent}
+use Rattle.ot_logic.specs.Lists.{IsMember}
+use Rattle.ot_logic.specs.Names.{Name}
+use Rattle.ot_logic.specs.Naming.{names}
+use Rattle.ot_logic.specs.Trees.{Sequent, Definition, ListDef, TyDef}
+use Rattle.ot_logic.specs.Hol.{same_sequent}
 use Rattle.ot_trace.specs.Origins.{Origin}
 use Rattle.ot_trace.specs.Reach.{IsReached}
 use Rattle.ot_written.specs.Same.{same_origin}

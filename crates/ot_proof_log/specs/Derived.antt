@@ -1,11 +1,11 @@
 -- The records of what a word of an article makes or defines, by the values of its operands.
 use Rattle.std.specs.Prelude.{ℕ, Bool, true, false, List, [], ◌∷◌, ◌++◌, map, length, Result, Ok, Err}
 use Rattle.std.specs.List.{flat_map}
-use Rattle.ot_plain.specs.Names.{Name}
-use Rattle.ot_plain.specs.Trees.{Variable, Tm}
-use Rattle.ot_plain.specs.Faults.{Fault}
-use Rattle.ot_plain.specs.declared.command.Cmd.{Cmd}
-use Rattle.ot_plain.specs.declared.command.Cmd.TheVariants as words
+use Rattle.ot_logic.specs.Names.{Name}
+use Rattle.ot_logic.specs.Trees.{Variable, Tm}
+use Rattle.ot_logic.specs.Faults.{Fault}
+use Rattle.ot_logic.specs.declared.command.Cmd.{Cmd}
+use Rattle.ot_logic.specs.declared.command.Cmd.TheVariants as words
 use Rattle.ot_records.specs.declared.word.RecordWord.TheVariants as records
 use Rattle.ot_machine.specs.Objects.{Object, name, list, variable, term, theorem}
 use Rattle.ot_machine.specs.Places.{as_each, as_term, as_name}

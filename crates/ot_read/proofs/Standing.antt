@@ -1,9 +1,9 @@
 -- By the forms, lines stand for what they are read as, and the first refused line is refused as its forms say.
 use Rattle.std.specs.Prelude.{◌≡◌, ◌+◌, ◌-◌, List, [], ◌∷◌, Result, Ok, Err}
 use Rattle.std.proofs.Common.{refl, sym, ap, subst, arith}
-use Rattle.ot_plain.specs.Answers.{◌>>=◌}
-use Rattle.ot_plain.specs.Names.{Name}
-use Rattle.ot_plain.specs.Trees.{Sequent, Symbol}
+use Rattle.ot_logic.specs.Answers.{◌>>=◌}
+use Rattle.ot_logic.specs.Names.{Name}
+use Rattle.ot_logic.specs.Trees.{Sequent, Symbol}
 use Rattle.ot_theory.specs.Lines.{LineText}
 use Rattle.ot_forms.specs.Meaning.{Refusal}
 use Rattle.ot_forms.specs.Words.{IsNotation}

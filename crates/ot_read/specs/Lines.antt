@@ -1,9 +1,9 @@
 -- The sequents that the lines of a text stand for, one after another, or the first refusal; and what is printed of
 -- them.
 use Rattle.std.specs.Prelude.{◌≡◌, ℕ, ◌+◌, ◌-◌, List, [], ◌∷◌, ◌++◌, length, flat_map, Result, Ok, Err}
-use Rattle.ot_plain.specs.Answers.{◌>>=◌}
-use Rattle.ot_plain.specs.Names.{Name}
-use Rattle.ot_plain.specs.Trees.{Tm, Sequent, Symbol}
+use Rattle.ot_logic.specs.Answers.{◌>>=◌}
+use Rattle.ot_logic.specs.Names.{Name}
+use Rattle.ot_logic.specs.Trees.{Tm, Sequent, Symbol}
 use Rattle.ot_theory.specs.Lines.{LineText}
 use Rattle.ot_text.specs.Texts.{sequent_text}
 use Rattle.ot_forms.specs.declared.fault.TextFault.{TextFault}

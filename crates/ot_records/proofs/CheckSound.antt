@@ -1,8 +1,8 @@
 -- The check of a log keeps what was made proved, up to its end.
 use Rattle.std.specs.Prelude.{slice_get}
 use Rattle.std.proofs.Common.{◌≡◌, ℕ, zero, suc, List, [], ◌∷◌, Some, Result, Ok, Err, refl, subst}
-use Rattle.ot_plain.specs.Trees.{Alphabet, Ty, TyVar, TyOp, Tm, Free, Con, Bound, App, Abs, Sequent}
-use Rattle.ot_plain.specs.Answers.{unless}
+use Rattle.ot_logic.specs.Trees.{Alphabet, Ty, TyVar, TyOp, Tm, Free, Con, Bound, App, Abs, Sequent}
+use Rattle.ot_logic.specs.Answers.{unless}
 use Rattle.ot_laws.specs.Theorem.{IsTheorem}
 use Rattle.ot_laws.proofs.Tests.{Tells}
 use Rattle.ot_records.specs.Tokens.{LogFault, BadHeader, BadReference, Token, Tokens, NoMore, Stopped, Then}
@@ -23,8 +23,8 @@ use Rattle.ot_records.proofs.StepSound.{app_thm-sound, deduct_antisym-sound, bet
 use Rattle.ot_records.proofs.DefinitionSound.{constant-acceptable, constants-acceptable, type_operator-acceptable}
 use Rattle.ot_records.proofs.StateSound.{IsSound, nothing-sound, type-sound, term-sound, sequent-sound}
 use Rattle.ot_records.proofs.StateSound.{result-sound, assumption-sound, definition-sound}
-use Rattle.ot_plain.proofs.Members.{IsMember-at}
-use Rattle.ot_plain.proofs.Results.{bind-ok, same_Ok, some_or-ok}
+use Rattle.ot_logic.proofs.Members.{IsMember-at}
+use Rattle.ot_logic.proofs.Results.{bind-ok, same_Ok, some_or-ok}
 
 module _ {N : Type 0} (alphabet : Alphabet N) where
   -- whatever a form is answered, it makes what is proved, from what is

@@ -1,8 +1,8 @@
 -- A definition that passes its conditions may be next, and its theorems are theorems.
 use Rattle.std.proofs.Common.{◌≡◌, List, map, Result, Ok, Err, ap, subst}
-use Rattle.ot_plain.specs.Trees.{Alphabet, Variable, Tm, Sequent, Definition, ConDef, ListDef, TyDef}
-use Rattle.ot_plain.specs.Hol.{IsNext, defined, used}
-use Rattle.ot_plain.specs.Answers.{unless}
+use Rattle.ot_logic.specs.Trees.{Alphabet, Variable, Tm, Sequent, Definition, ConDef, ListDef, TyDef}
+use Rattle.ot_logic.specs.Hol.{IsNext, defined, used}
+use Rattle.ot_logic.specs.Answers.{unless}
 use Rattle.ot_laws.specs.Theorem.{IsTheorem}
 use Rattle.ot_laws.proofs.Tests.{Tells}
 use Rattle.ot_laws.proofs.Definitions.{HasPremise}
@@ -13,8 +13,8 @@ use Rattle.ot_records.specs.Steps.{or_bad, is_well_typed, all_defined, all_used}
 use Rattle.ot_records.specs.Steps.{constant_step, constants_step, type_operator_step}
 use Rattle.ot_laws.proofs.Next.{constants_are_next, lists_are_next, types_are_next}
 use Rattle.ot_records.proofs.StepSound.{well_typed-is}
-use Rattle.ot_plain.proofs.Members.{IsMember-flat_map, IsMember-flat_map_back}
-use Rattle.ot_plain.proofs.Results.{bind-ok, same_Ok, unless-ok}
+use Rattle.ot_logic.proofs.Members.{IsMember-flat_map, IsMember-flat_map_back}
+use Rattle.ot_logic.proofs.Results.{bind-ok, same_Ok, unless-ok}
 
 or_bad-ok : {A E : Type 0} (r : Result A E) (x : A) → or_bad r ≡ Ok x → r ≡ Ok x
 or_bad-ok (Ok y) x h = ap Ok (same_Ok y x h)

@@ -1,8 +1,8 @@
 -- Of several pairs for one name or variable the first counts, so the others may be left out.
 use Rattle.std.specs.Prelude.{if◌then◌else◌}
 use Rattle.std.proofs.Common.{◌≡◌, false, cond, [], ◌∷◌, refl, sym, ap, ◌∙◌, subst, inl, inr}
-use Rattle.ot_plain.specs.Trees.{Alphabet, Variable, Tm}
-use Rattle.ot_plain.specs.Hol.{same_var, TypeMap, TermMap, type_at, term_at, inst_by, inst_var, bind, subst_tm}
+use Rattle.ot_logic.specs.Trees.{Alphabet, Variable, Tm}
+use Rattle.ot_logic.specs.Hol.{same_var, TypeMap, TermMap, type_at, term_at, inst_by, inst_var, bind, subst_tm}
 use Rattle.ot_laws.proofs.Tests.{Tells, cases_of, var_cases}
 use Rattle.ot_records.specs.Steps.{without, first_pairs, without_name, first_types}
 

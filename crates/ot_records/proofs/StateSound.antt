@@ -4,13 +4,13 @@ use Rattle.std.specs.List.{list_all, list_any}
 use Rattle.std.proofs.Common.{◌≡◌, Bool, true, false, ◌&&◌, ◌||◌, List, [], ◌∷◌}
 use Rattle.std.proofs.Common.{◌++◌, Result, Ok, refl, subst, inl, inr, ◌⊎◌}
 use Rattle.std.proofs.lemmas.Bool.{and_parts}
-use Rattle.ot_plain.specs.Lists.{IsMember, IsSameSet, AreDistinct}
-use Rattle.ot_plain.specs.Table.{Extends}
-use Rattle.ot_plain.specs.Trees.{Alphabet, Ty, Tm, Sequent, Definition}
-use Rattle.ot_plain.specs.Hol.{bool_ty, depth_ty, depth_tm, same_sequent, once_each}
-use Rattle.ot_plain.specs.Hol.{theorems, HasType, IsSequent, Accepted, Derivable, SameSet}
-use Rattle.ot_plain.specs.Answers.{unless}
-use Rattle.ot_plain.proofs.TableLemmas.{Extends-refl, Extends-append}
+use Rattle.ot_logic.specs.Lists.{IsMember, IsSameSet, AreDistinct}
+use Rattle.ot_logic.specs.Table.{Extends}
+use Rattle.ot_logic.specs.Trees.{Alphabet, Ty, Tm, Sequent, Definition}
+use Rattle.ot_logic.specs.Hol.{bool_ty, depth_ty, depth_tm, same_sequent, once_each}
+use Rattle.ot_logic.specs.Hol.{theorems, HasType, IsSequent, Accepted, Derivable, SameSet}
+use Rattle.ot_logic.specs.Answers.{unless}
+use Rattle.ot_logic.proofs.TableLemmas.{Extends-refl, Extends-append}
 use Rattle.ot_laws.specs.Theorem.{IsTheorem}
 use Rattle.ot_laws.proofs.Tests.{Tells}
 use Rattle.ot_laws.proofs.Sets.{all-from_members}
@@ -23,8 +23,8 @@ use Rattle.ot_records.specs.State.{LogState, nothing_made, kept_once, makes_type
 use Rattle.ot_records.specs.State.{makes_sequent, makes_assumption, makes_definition, makes_result}
 use Rattle.ot_records.proofs.StepSound.{proposition-is}
 use Rattle.ot_records.proofs.DefinitionSound.{IsAcceptable}
-use Rattle.ot_plain.proofs.Members.{IsMember-cases, IsMember-place, IsMember-right}
-use Rattle.ot_plain.proofs.Results.{bind-ok, same_Ok, unless-ok}
+use Rattle.ot_logic.proofs.Members.{IsMember-cases, IsMember-place, IsMember-right}
+use Rattle.ot_logic.proofs.Results.{bind-ok, same_Ok, unless-ok}
 
 -- ---- places and members
 -- an element that passes the test, where some does

@@ -5,13 +5,13 @@ use Rattle.std.proofs.Common.{◌≡◌, Bool, true, List, [], ◌∷◌, ◌++�
 use Rattle.std.proofs.Common.{Some, None, Ok, refl, sym, ap, ◌∙◌, subst}
 use Rattle.std.proofs.lemmas.Bool.{not-true, and_parts}
 use Rattle.std.proofs.lemmas.Bool.Decides.{not_from_Decides}
-use Rattle.ot_plain.specs.Trees.{Alphabet, Ty, Variable, Tm, App, Abs, Sequent, Definition}
-use Rattle.ot_plain.specs.Hol.{same_ty, fun_ty, bool_ty, as_fun_ty, type_in, type_of, HasType}
-use Rattle.ot_plain.specs.Hol.{IsWellTyped, close, opened, TypeMap, TermMap, subst_tm, same_tm}
-use Rattle.ot_plain.specs.Hol.{equation, as_equation, minus, union, once_each, is_free_in_some, IsTyped}
-use Rattle.ot_plain.specs.Hol.{Refl, Assume, EqMp, AbsThm, AppThm, DeductAntisym, BetaConv, Subst}
-use Rattle.ot_plain.specs.Answers.{unless, some_or}
-use Rattle.ot_plain.specs.Rules.{has_type}
+use Rattle.ot_logic.specs.Trees.{Alphabet, Ty, Variable, Tm, App, Abs, Sequent, Definition}
+use Rattle.ot_logic.specs.Hol.{same_ty, fun_ty, bool_ty, as_fun_ty, type_in, type_of, HasType}
+use Rattle.ot_logic.specs.Hol.{IsWellTyped, close, opened, TypeMap, TermMap, subst_tm, same_tm}
+use Rattle.ot_logic.specs.Hol.{equation, as_equation, minus, union, once_each, is_free_in_some, IsTyped}
+use Rattle.ot_logic.specs.Hol.{Refl, Assume, EqMp, AbsThm, AppThm, DeductAntisym, BetaConv, Subst}
+use Rattle.ot_logic.specs.Answers.{unless, some_or}
+use Rattle.ot_logic.specs.Rules.{has_type}
 use Rattle.ot_laws.specs.Theorem.{IsTheorem}
 use Rattle.ot_laws.proofs.Tests.{Tells, same_ty-is, same_tm-is, has_type-is, is_free_in_some-is}
 use Rattle.ot_laws.proofs.Typing.{as_fun_ty-some, type_of-typed}
@@ -24,7 +24,7 @@ use Rattle.ot_records.specs.Tokens.{BadStep}
 use Rattle.ot_records.specs.Steps.{Step, is_well_typed, is_proposition, sides_of, refl_step}
 use Rattle.ot_records.specs.Steps.{assume_step, eq_mp_step, abs_thm_step, app_thm_step}
 use Rattle.ot_records.specs.Steps.{deduct_antisym_step, beta_step, first_pairs, subst_step}
-use Rattle.ot_plain.proofs.Results.{bind-ok, same_Ok, some_or-ok, unless-ok}
+use Rattle.ot_logic.proofs.Results.{bind-ok, same_Ok, some_or-ok, unless-ok}
 use Rattle.ot_laws.proofs.Sound.{theorem-as, concluding}
 
 module _ {N : Type 0} (alphabet : Alphabet N) where

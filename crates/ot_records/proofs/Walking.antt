@@ -4,8 +4,8 @@ use Rattle.std.specs.Option.{option_map}
 use Rattle.std.proofs.Common.{◌≡◌, ℕ, zero, suc, ◌<◌, ◌≤◌, false, cond, ◌&&◌}
 use Rattle.std.proofs.Common.{List, [], ◌∷◌, take, Some, refl, ap, arith}
 use Rattle.std.proofs.lemmas.Bool.{or_parts}
-use Rattle.ot_plain.specs.Trees.{Alphabet, Ty, Variable, Tm, Free, Con, Bound, App, Abs}
-use Rattle.ot_plain.specs.Hol.{fun_ty, type_in, applied, close_at, open_at}
+use Rattle.ot_logic.specs.Trees.{Alphabet, Ty, Variable, Tm, Free, Con, Bound, App, Abs}
+use Rattle.ot_logic.specs.Hol.{fun_ty, type_in, applied, close_at, open_at}
 use Rattle.ot_records.specs.Steps.{is_within_type, has_types_within}
 use Rattle.ot_records.specs.Walks.{loose, has_free}
 

@@ -1,8 +1,8 @@
 -- The check of a log: over its tokens, to the end or to the first fault with its line.
 use Rattle.std.specs.Prelude.{ℕ, List, codes, Bool, false, ◌==◌, Result, Ok, Err, slice_get}
 use Rattle.std.specs.Str.{bytes_eq}
-use Rattle.ot_plain.specs.Answers.{◌>>=◌, unless, some_or}
-use Rattle.ot_plain.specs.Trees.{Alphabet}
+use Rattle.ot_logic.specs.Answers.{◌>>=◌, unless, some_or}
+use Rattle.ot_logic.specs.Trees.{Alphabet}
 use Rattle.ot_records.specs.Tokens.{LogFault, BadToken, BadHeader, UnknownRecord, BadReference, LogEnds}
 use Rattle.ot_records.specs.Tokens.{Token, Number, Named, Word, Tokens, NoMore, Stopped, Then, record_of}
 use Rattle.ot_records.specs.declared.word.RecordWord.{RecordWord}

@@ -1,7 +1,7 @@
 -- The records of a log: the tokens that each asks for, one after another, and what it makes.
 use Rattle.std.specs.Prelude.{ℕ, zero, suc, List, [], ◌∷◌}
-use Rattle.ot_plain.specs.Trees.{Alphabet, Ty, Tys, NoTys, MoreTys, TyVar, TyOp}
-use Rattle.ot_plain.specs.Trees.{Variable, Tm, Free, Con, Bound, App, Abs, Sequent}
+use Rattle.ot_logic.specs.Trees.{Alphabet, Ty, Tys, NoTys, MoreTys, TyVar, TyOp}
+use Rattle.ot_logic.specs.Trees.{Variable, Tm, Free, Con, Bound, App, Abs, Sequent}
 use Rattle.ot_records.specs.declared.word.RecordWord.{RecordWord}
 use Rattle.ot_records.specs.declared.word.RecordWord.TheVariants as words
 use Rattle.ot_records.specs.Steps.{refl_step, assume_step, eq_mp_step, abs_thm_step, app_thm_step}

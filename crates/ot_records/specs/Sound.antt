@@ -1,7 +1,7 @@
 -- What a log that is accepted proves.
 use Rattle.std.specs.Prelude.{◌≡◌, ℕ, Some, slice_get}
-use Rattle.ot_plain.specs.Trees.{Alphabet, Sequent}
-use Rattle.ot_plain.specs.Hol.{Accepted}
+use Rattle.ot_logic.specs.Trees.{Alphabet, Sequent}
+use Rattle.ot_logic.specs.Hol.{Accepted}
 use Rattle.ot_laws.specs.Theorem.{IsTheorem, AreSequents}
 use Rattle.ot_records.specs.Tokens.{Tokens}
 use Rattle.ot_records.specs.State.{LogState}

@@ -1,9 +1,9 @@
 -- What the records of a log made so far.
 use Rattle.std.specs.Prelude.{List, [], ◌∷◌, ◌++◌, if◌then◌else◌, Result, Ok, nat_le}
 use Rattle.std.specs.List.{list_all, list_any}
-use Rattle.ot_plain.specs.Trees.{Alphabet, Ty, Tm, Sequent, Definition}
-use Rattle.ot_plain.specs.Hol.{depth_ty, depth_tm, same_sequent, theorems}
-use Rattle.ot_plain.specs.Answers.{◌>>=◌, unless}
+use Rattle.ot_logic.specs.Trees.{Alphabet, Ty, Tm, Sequent, Definition}
+use Rattle.ot_logic.specs.Hol.{depth_ty, depth_tm, same_sequent, theorems}
+use Rattle.ot_logic.specs.Answers.{◌>>=◌, unless}
 use Rattle.ot_records.specs.Tokens.{LogFault, LogNesting}
 use Rattle.ot_records.specs.Steps.{log_depth, is_sequent_within}
 

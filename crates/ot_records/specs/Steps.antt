@@ -2,13 +2,13 @@
 use Rattle.std.specs.Prelude.{cond, Bool, true, ◌&&◌, not, is_some, if◌then◌else◌, ℕ, nat_le}
 use Rattle.std.specs.Prelude.{List, [], ◌∷◌, map, Option, Some, None, Result, Ok, Err}
 use Rattle.std.specs.List.{list_all, flat_map}
-use Rattle.ot_plain.specs.Trees.{Alphabet, Ty, Variable, Tm, App, Abs, Sequent}
-use Rattle.ot_plain.specs.Trees.{Symbol, Definition, ConDef, ListDef, TyDef}
-use Rattle.ot_plain.specs.Hol.{same_ty, same_var, fun_ty, bool_ty, as_fun_ty, depth_ty, type_in, type_of, close}
-use Rattle.ot_plain.specs.Hol.{opened, depth_tm, TypeMap, TermMap, subst_tm, same_tm, equation, as_equation}
-use Rattle.ot_plain.specs.Hol.{minus, union, once_each, is_free_in_some, sequent_of, defined, used}
-use Rattle.ot_plain.specs.Answers.{◌>>=◌, unless, some_or}
-use Rattle.ot_plain.specs.Rules.{has_type}
+use Rattle.ot_logic.specs.Trees.{Alphabet, Ty, Variable, Tm, App, Abs, Sequent}
+use Rattle.ot_logic.specs.Trees.{Symbol, Definition, ConDef, ListDef, TyDef}
+use Rattle.ot_logic.specs.Hol.{same_ty, same_var, fun_ty, bool_ty, as_fun_ty, depth_ty, type_in, type_of, close}
+use Rattle.ot_logic.specs.Hol.{opened, depth_tm, TypeMap, TermMap, subst_tm, same_tm, equation, as_equation}
+use Rattle.ot_logic.specs.Hol.{minus, union, once_each, is_free_in_some, sequent_of, defined, used}
+use Rattle.ot_logic.specs.Answers.{◌>>=◌, unless, some_or}
+use Rattle.ot_logic.specs.Rules.{has_type}
 use Rattle.ot_laws.specs.Conditions.{checked_const, checked_list, checked_type}
 use Rattle.ot_records.specs.Tokens.{LogFault, BadStep}
 

@@ -1,6 +1,6 @@
 -- Nameless terms that share parts: what is remembered of a part.
 use Rattle.std.specs.Prelude.{ℕ, suc, max, ◌-◌, Bool, true, false, ◌||◌}
-use Rattle.ot_plain.specs.Trees.{Tm, Free, Con, Bound, App, Abs}
+use Rattle.ot_logic.specs.Trees.{Tm, Free, Con, Bound, App, Abs}
 
 module _ {N : Type 0} where
   -- how many abstractions have to stand around a term: one more than the outermost place that leads out of it

@@ -1,5 +1,5 @@
 //! What the check of a log implies, for names and for their numbers.
-ghost use Rattle.ot_plain.specs.Naming.{names, numbers};
+ghost use Rattle.ot_logic.specs.Naming.{names, numbers};
 ghost use Rattle.ot_records.specs.Sound.{LogsAreSound};
 
 /// Where the check of a log ends, its definitions are accepted and each result is derivable from

@@ -3,11 +3,11 @@ use Rattle.std.specs.Bool.{Decides}
 use Rattle.std.proofs.Common.{◌≡◌, ◌≢◌, ◌≤◌, ◌+◌, ℕ, zero, suc, Bool, List, [], ◌∷◌, ◌++◌}
 use Rattle.std.proofs.Common.{Result, Ok, Err, length, false, inl, inr, refl, subst, arith}
 use Rattle.std.proofs.lemmas.Bool.{cases_Bool}
-use Rattle.ot_plain.specs.Lists.{IsMember, IsPart, AreDistinct}
+use Rattle.ot_logic.specs.Lists.{IsMember, IsPart, AreDistinct}
 use Rattle.ot_repo.specs.Walk.{Edge, Walk, Walked, Stops, TooDeep, ◌>>=◌}
 use Rattle.ot_repo.specs.Walk.{followed, is_in, arrive, walk_edges, walk_key}
 use Rattle.ot_repo.specs.Walks.{HasEdge, EndsAlways}
-use Rattle.ot_plain.proofs.Members.{distinct-length}
+use Rattle.ot_logic.proofs.Members.{distinct-length}
 use Rattle.ot_blocks.proofs.Members.{apart_from_test}
 
 module _ {K E : Type 0} where

@@ -16,7 +16,7 @@ use Rattle.ot_blocks.specs.Paths.{is_package, name_part}
 use Rattle.ot_repo.specs.Required.{BadIndex, full_names, names_of, picked_by_name}
 use Rattle.ot_repo.specs.Answers.{ArePackages}
 use Rattle.ot_repo.specs.Reading.{texts_of}
-use Rattle.ot_plain.proofs.Members.{IsMember-push}
+use Rattle.ot_logic.proofs.Members.{IsMember-push}
 
 -- ---- lines
 

@@ -6,8 +6,8 @@ use Rattle.std.specs.Prelude.{Option, true, IfErr}
 use Rattle.std.specs.List.{list_any, filter}
 use Rattle.std.proofs.lemmas.Bool.{cases_Bool}
 use Rattle.ot_io.specs.Folder.{Folder}
-use Rattle.ot_plain.specs.Lists.{IsMember}
-use Rattle.ot_plain.specs.Answers.{◌>>=◌}
+use Rattle.ot_logic.specs.Lists.{IsMember}
+use Rattle.ot_logic.specs.Answers.{◌>>=◌}
 use Rattle.ot_theory.specs.Lines.{lines_of}
 use Rattle.ot_theory.specs.Theory.{TagText, TheoryText, theory}
 use Rattle.ot_theory.specs.Answers.{tag_of, tags_of, theory_of}

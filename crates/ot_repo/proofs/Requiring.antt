@@ -10,8 +10,8 @@ use Rattle.std.proofs.lemmas.Bool.{cases_Bool}
 use Rattle.std.proofs.lemmas.List.{reverse-append, map-append}
 use Rattle.std.proofs.lemmas.Option.{same_Some}
 use Rattle.ot_io.specs.Folder.{Folder}
-use Rattle.ot_plain.specs.Lists.{IsMember}
-use Rattle.ot_plain.specs.Answers.{◌>>=◌, some_or}
+use Rattle.ot_logic.specs.Lists.{IsMember}
+use Rattle.ot_logic.specs.Answers.{◌>>=◌, some_or}
 use Rattle.ot_theory.specs.Theory.{TagText, TheoryText}
 use Rattle.ot_blocks.specs.Paths.{name_part, package_path}
 use Rattle.ot_repo.specs.Walk.{Edge, Walk, Walked, Stops, TooDeep, walk_from}
@@ -25,8 +25,8 @@ use Rattle.ot_repo.specs.Laws.{Round, AreRequired, GivesRequired, GivesRefusal, 
 use Rattle.ot_repo.proofs.Walking.{gives_walk, gives_stop}
 use Rattle.ot_repo.proofs.Turns.{gives_turns}
 use Rattle.ot_repo.proofs.Ending.{ends_always}
-use Rattle.ot_plain.proofs.Members.{IsMember-push}
-use Rattle.ot_plain.proofs.Results.{bind-ok, same_Ok, some_or-ok}
+use Rattle.ot_logic.proofs.Members.{IsMember-push}
+use Rattle.ot_logic.proofs.Results.{bind-ok, same_Ok, some_or-ok}
 
 -- ---- what is picked
 

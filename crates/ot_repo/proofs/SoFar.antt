@@ -3,7 +3,7 @@ use Rattle.std.specs.Prelude.{Option, is_some, not}
 use Rattle.std.specs.List.{list_any, filter}
 use Rattle.std.specs.Str.{bytes_eq}
 use Rattle.std.proofs.Common.{◌≡◌, ◌+◌, ◌*◌, ℕ, Bool, true, false, List, [], ◌∷◌, map, length, Result, Some, None}
-use Rattle.ot_plain.specs.Lists.{IsMember}
+use Rattle.ot_logic.specs.Lists.{IsMember}
 use Rattle.ot_repo.specs.Walk.{Edge, Walk}
 use Rattle.ot_repo.specs.Required.{Refusal}
 use Rattle.ot_repo.specs.Reading.{edges_left, AreListed}

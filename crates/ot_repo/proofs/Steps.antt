@@ -12,7 +12,7 @@ use Rattle.std.specs.Prelude.{◌||◌}
 use Rattle.std.proofs.lemmas.Bool.{cases_Bool}
 use Rattle.std.proofs.lemmas.List.{reverse-append, length-append}
 use Rattle.std.proofs.lemmas.List.Folds.{list_any-append}
-use Rattle.ot_plain.specs.Lists.{IsMember}
+use Rattle.ot_logic.specs.Lists.{IsMember}
 use Rattle.ot_repo.specs.Walk.{Edge, Walk, TooDeep, walk_from}
 use Rattle.ot_io.specs.Folder.{Folder}
 use Rattle.ot_repo.specs.Required.{Refusal, Theory, TheoryTooLarge, IndexTooLarge, BadIndex}
@@ -34,8 +34,8 @@ use Rattle.ot_repo.proofs.Rest.{path_of, rest_of, rest_nowhere, rest_known}
 use Rattle.ot_repo.proofs.Rest.{rest_back, rest_zero, rest_stopped, rest_new}
 use Rattle.ot_repo.proofs.SoFar.{level_of, levels_of, is_among, mark_of, IsMarked, IsLevel}
 use Rattle.ot_repo.proofs.SoFar.{SoFar, Rests, is_new, new_count, stack_work, work}
-use Rattle.ot_plain.proofs.Members.{IsMember-left}
-use Rattle.ot_plain.proofs.Results.{some_or-ok}
+use Rattle.ot_logic.proofs.Members.{IsMember-left}
+use Rattle.ot_logic.proofs.Results.{some_or-ok}
 
 -- ---- marks
 

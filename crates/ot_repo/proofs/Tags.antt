@@ -9,7 +9,7 @@ use Rattle.std.proofs.Common.{take, get_or, reverse, Ok, Some, inl, inr, refl, s
 use Rattle.std.proofs.lemmas.Bool.{cases_Bool}
 use Rattle.std.proofs.lemmas.List.{map-append}
 use Rattle.std.proofs.lemmas.List.Elements.{filter-append}
-use Rattle.ot_plain.specs.Answers.{◌>>=◌, some_or}
+use Rattle.ot_logic.specs.Answers.{◌>>=◌, some_or}
 use Rattle.ot_io.specs.Folder.{Folder}
 use Rattle.ot_theory.specs.Theory.{TagText, theory}
 use Rattle.ot_theory.specs.Answers.{tag_of, tags_of, theory_of}
@@ -24,7 +24,7 @@ use Rattle.ot_repo.specs.Reading.{texts_of, edge_at, AreListed}
 use Rattle.ot_repo.specs.declared.requirements.Requirement.{Requirement}
 use Rattle.ot_repo.proofs.Picking.{by_name_more, picked_so_far, so_far_more}
 use Rattle.ot_repo.proofs.Requiring.{picked_member, member_reverse}
-use Rattle.ot_plain.proofs.Members.{IsMember-push}
+use Rattle.ot_logic.proofs.Members.{IsMember-push}
 
 -- ---- names
 

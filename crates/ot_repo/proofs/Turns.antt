@@ -3,13 +3,13 @@ use Rattle.std.specs.Bool.{Decides}
 use Rattle.std.proofs.Common.{◌≡◌, ℕ, zero, suc, Bool, List, [], ◌∷◌, ◌++◌, Result, Ok, Err}
 use Rattle.std.proofs.Common.{inl, inr, refl, sym, ap, subst, ◌∙◌, append_assoc, append-nil}
 use Rattle.std.proofs.lemmas.Bool.{cases_Bool}
-use Rattle.ot_plain.specs.Lists.{IsMember, AreDistinct}
+use Rattle.ot_logic.specs.Lists.{IsMember, AreDistinct}
 use Rattle.ot_repo.specs.Walk.{Edge, Walk, Walked, Stops, TooDeep, ◌>>=◌}
 use Rattle.ot_repo.specs.Walk.{followed, is_in, arrive, walk_edges, walk_key}
 use Rattle.ot_repo.specs.Walks.{GivesTurns}
 use Rattle.ot_blocks.proofs.Members.{member_end, split_member}
 use Rattle.ot_repo.proofs.Walking.{gives_walk}
-use Rattle.ot_plain.proofs.Members.{IsMember-left}
+use Rattle.ot_logic.proofs.Members.{IsMember-left}
 
 module _ {K E : Type 0} where
   bind_more : (w : Walk K E) (h f g : List K → Walk K E) → ((ks : List K) → h ks ≡ f ks >>= g)

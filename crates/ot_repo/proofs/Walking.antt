@@ -3,13 +3,13 @@ use Rattle.std.specs.Bool.{Decides}
 use Rattle.std.proofs.Common.{◌≡◌, ℕ, zero, suc, Bool, List, [], ◌∷◌, ◌++◌, Result}
 use Rattle.std.proofs.Common.{Ok, Err, false, inl, inr, refl, sym, ap, subst, ◌∙◌}
 use Rattle.std.proofs.lemmas.Bool.{cases_Bool}
-use Rattle.ot_plain.specs.Lists.{IsMember, IsPart, AreDistinct}
+use Rattle.ot_logic.specs.Lists.{IsMember, IsPart, AreDistinct}
 use Rattle.ot_repo.specs.Walk.{Edge, Walk, Walked, Stops, TooDeep, ◌>>=◌, followed}
 use Rattle.ot_repo.specs.Walk.{is_in, arrive, walk_edges, walk_key, walk_from}
 use Rattle.ot_repo.specs.Walks.{HasEdge, Reaches, First, Further, Leads, Here, Along, LeadInto}
 use Rattle.ot_repo.specs.Walks.{IsReached, HasStop, NoEdges, NoTarget, Cycle, GivesWalk, GivesStop}
 use Rattle.ot_blocks.proofs.Members.{member_from_test, apart_from_test, member_end, cut_push}
-use Rattle.ot_plain.proofs.Members.{AreDistinct-push, IsMember-left, IsMember-push}
+use Rattle.ot_logic.proofs.Members.{AreDistinct-push, IsMember-left, IsMember-push}
 
 -- ---- answers
 

@@ -1,8 +1,8 @@
 -- How the code's answers stand to the stated ones. After a read fault, and where memory ran out, the answer is open.
 use Rattle.std.specs.Prelude.{◌≡◌, ℕ, List, true, map, Option, Result, Ok, Err, Vec, String, IfSome, string_bytes}
 use Rattle.std.specs.Global.{Global}
-use Rattle.ot_io.specs.Causes.{Rose}
-use Rattle.ot_plain.specs.Lists.{IsMember}
+use Rattle.ot_io.specs.Causes.{CountRose}
+use Rattle.ot_logic.specs.Lists.{IsMember}
 use Rattle.ot_blocks.specs.Paths.{is_package}
 use Rattle.ot_repo.specs.Required.{Refusal, Theory, TheoryTooLarge, IndexTooLarge}
 use Rattle.ot_repo.specs.Required.{BadIndex, NotInstalled, RequiresCycle, Missing}
@@ -36,9 +36,9 @@ Gives view (Err e) stated = Refuses e stated
 
 -- a missing file is counted, and so is a failure, which is one of the path that was asked for, where that is known
 abbrev pub HasCause : RepoFault → ℕ → ℕ → ℕ → ℕ → Option (List ℕ) → Type 0
-HasCause (faults.NoFile path) misses misses' faults faults' at = Rose misses misses'
+HasCause (faults.NoFile path) misses misses' faults faults' at = CountRose misses misses'
 HasCause (faults.ReadFault path) misses misses' faults faults' at =
-    Rose faults faults' × IfSome at (λ asked. string_bytes path ≡ asked)
+    CountRose faults faults' × IfSome at (λ asked. string_bytes path ≡ asked)
 HasCause (faults.Theory path line fault) misses misses' faults faults' at = Unit {0}
 HasCause (faults.TheoryTooLarge path) misses misses' faults faults' at = Unit {0}
 HasCause (faults.IndexTooLarge path) misses misses' faults faults' at = Unit {0}

@@ -2,7 +2,7 @@
 use Rattle.std.specs.Prelude.{◌≡◌, ◌≢◌, ◌⊎◌, ℕ, List, [], ◌∷◌, ◌++◌, length, Some, None, Ok, Err}
 use Rattle.std.specs.Str.{bytes_eq}
 use Rattle.ot_io.specs.Folder.{Folder}
-use Rattle.ot_plain.specs.Lists.{IsMember, AreDistinct}
+use Rattle.ot_logic.specs.Lists.{IsMember, AreDistinct}
 use Rattle.ot_theory.specs.Theory.{TagText, TheoryText}
 use Rattle.ot_blocks.specs.Paths.{package_path}
 use Rattle.ot_repo.specs.Walk.{TooDeep, walk_from}

@@ -6,8 +6,8 @@ use Rattle.std.specs.HashMap.{HashMap, get_by}
 use Rattle.std.specs.Option.{option_map}
 use Rattle.std.specs.Str.{bytes_eq}
 use Rattle.ot_io.specs.Folder.{Folder}
-use Rattle.ot_plain.specs.Answers.{◌>>=◌, some_or}
-use Rattle.ot_plain.specs.Lists.{IsMember}
+use Rattle.ot_logic.specs.Answers.{◌>>=◌, some_or}
+use Rattle.ot_logic.specs.Lists.{IsMember}
 use Rattle.ot_blocks.specs.Paths.{package_path}
 use Rattle.ot_theory.specs.Theory.{TagText}
 use Rattle.ot_repo.specs.Walk.{Edge}

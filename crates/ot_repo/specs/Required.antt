@@ -4,7 +4,7 @@ use Rattle.std.specs.Prelude.{find, Option, Some, None, Result, Ok, Err, if◌th
 use Rattle.std.specs.List.{list_any, filter}
 use Rattle.std.specs.Str.{bytes_eq}
 use Rattle.ot_io.specs.Folder.{Folder, bytes_at}
-use Rattle.ot_plain.specs.Answers.{◌>>=◌, unless, some_or}
+use Rattle.ot_logic.specs.Answers.{◌>>=◌, unless, some_or}
 use Rattle.ot_theory.specs.Lines.{LineText, lines_of}
 use Rattle.ot_theory.specs.Theory.{TagText, TheoryText, theory}
 use Rattle.ot_theory.specs.declared.fault.TheoryFault.{TheoryFault}

@@ -1,6 +1,6 @@
 -- Laws of the walk, in other words.
 use Rattle.std.specs.Prelude.{◌≡◌, ◌≢◌, ◌≤◌, ℕ, List, [], ◌∷◌, ◌++◌, length, Bool, Result, Ok, Err, ◌⊎◌}
-use Rattle.ot_plain.specs.Lists.{IsMember, AreDistinct}
+use Rattle.ot_logic.specs.Lists.{IsMember, AreDistinct}
 use Rattle.ot_repo.specs.Walk.{Edge, Walked, Stops, TooDeep, walk_from}
 
 module _ {K E : Type 0} (edges : K → Result (List (Edge K E)) E) where

@@ -1,4 +1,4 @@
-use ot_plain::Memory as NoMemory;
+use ot_logic::Memory as NoMemory;
 use ot_theory::TheoryFault;
 use std::alloc::{AllocError, AllocFailed};
 

@@ -9,7 +9,7 @@ ghost use Rattle.ot_repo.specs.Reading.{texts_of, listed_in, IsIndex, value_in};
 
 use crate::fault::RepoFault;
 use ot_blocks::{is_package, name_part};
-use ot_plain::Memory;
+use ot_logic::Memory;
 use ot_theory::next_line;
 use std::alloc::Global;
 use std::collections::HashMap;

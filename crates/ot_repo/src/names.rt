@@ -4,7 +4,7 @@ ghost use Rattle.std.specs.Str.{IsUtf8};
 ghost use Rattle.std.specs.String.{string_bytes};
 ghost use Rattle.ot_blocks.specs.Paths.{is_package};
 
-use ot_plain::Memory;
+use ot_logic::Memory;
 use std::alloc::Global;
 
 /// A full name as a text of its own.

@@ -15,7 +15,7 @@ use crate::reading::{index_text, theory_in, theory_text};
 use crate::requirements::{File, Setting, is_requirement, requirements_of};
 use crate::walk::walk;
 use ot_io::Files;
-use ot_plain::{Limits, Memory};
+use ot_logic::{Limits, Memory};
 use ot_theory::Tag;
 use std::alloc::Global;
 

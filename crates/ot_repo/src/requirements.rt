@@ -6,7 +6,7 @@ ghost use Rattle.ot_io.specs.Folder.{Folder};
 ghost use Rattle.ot_io.specs.Keeping.{KeepsFiles};
 ghost use Rattle.ot_theory.specs.Answers.{tag_of, tags_of};
 ghost use Rattle.ot_blocks.specs.Paths.{is_package, package_path};
-ghost use Rattle.ot_plain.specs.Lists.{IsMember};
+ghost use Rattle.ot_logic.specs.Lists.{IsMember};
 ghost use Rattle.ot_repo.specs.Required.{is_requirement, edge_of, edges_of};
 ghost use Rattle.ot_repo.specs.Answers.{FailsAt, Gives, HasCause};
 ghost use Rattle.ot_repo.specs.Reading.{listed_in, IsIndex, edge_at, edges_left, AreListed};
@@ -16,7 +16,7 @@ use crate::index::Index;
 use crate::reading::{theory_in, theory_text};
 use ot_blocks::package_path;
 use ot_io::Files;
-use ot_plain::Memory;
+use ot_logic::Memory;
 use ot_theory::Tag;
 use std::alloc::Global;
 

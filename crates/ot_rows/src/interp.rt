@@ -1,6 +1,6 @@
 //! Interpretations, one after another.
 use ot_interp::Interp;
-use ot_plain::{Memory, NameId};
+use ot_logic::{Memory, NameId};
 use std::alloc::Global;
 use std::process::Abort;
 use std::test::Fail;

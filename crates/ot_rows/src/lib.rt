@@ -12,11 +12,11 @@ mod interp;
 #[cfg(test)]
 mod lines;
 #[cfg(test)]
+mod logic;
+#[cfg(test)]
 mod nodes;
 #[cfg(test)]
 mod parse;
-#[cfg(test)]
-mod plain;
 #[cfg(test)]
 mod records;
 #[cfg(test)]

@@ -1,9 +1,9 @@
 //! Lines of readable text: what they are read as, and where they are refused.
+use ot_logic::{Name, Tm, Ty};
 use ot_parse::{
     Notation, PlainFault, ReadRefusal, Readable, TextFault, WordKind, plain_text, read_sequent,
     read_term,
 };
-use ot_plain::{Name, Tm, Ty};
 use std::alloc::{AllocError, Global};
 use std::process::Abort;
 use std::test::Fail;

@@ -1,6 +1,6 @@
 //! The lines of articles, and their words.
 use ot_io::MemSource;
-use ot_plain::Cmd;
+use ot_logic::Cmd;
 use ot_scan::{Line, Lines, ScanFault, Word, WordFault, command};
 use std::alloc::Global;
 use std::process::Abort;

@@ -1,7 +1,7 @@
 //! The steps of articles' objects.
 ghost use Rattle.std.specs.Prelude.{◌↔◌, ◌<◌, length, IsTrue};
 
-use ot_plain::{Cmd, Memory, NameId};
+use ot_logic::{Cmd, Memory, NameId};
 use ot_trace::{Step, StepId, Trace, reach, uses};
 use std::alloc::Global;
 use std::process::Abort;

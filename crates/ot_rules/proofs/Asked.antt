@@ -4,12 +4,12 @@ use Rattle.std.specs.List.{All, list_any, list_all}
 use Rattle.std.proofs.Common.{◌≡◌, ℕ, Bool, List, [], ◌∷◌, map, nat_eq, refl, sym, ap, subst, inl, inr}
 use Rattle.std.proofs.lemmas.Bool.Decides.{Decides-like, Decides-and, Decides-eqb, same_from_decides}
 use Rattle.std.proofs.lemmas.List.Elements.{All-head, All-tail}
-use Rattle.ot_plain.specs.Names.{Name}
-use Rattle.ot_plain.specs.Naming.{names}
-use Rattle.ot_plain.specs.Lists.{IsMember, IsPart, AreDistinct}
-use Rattle.ot_plain.specs.Table.{IsInjective}
-use Rattle.ot_plain.specs.Trees.{Ty, Variable, Tm}
-use Rattle.ot_plain.specs.Hol.{same_var, vars_ty, vars_tm, type_of, IsFree}
+use Rattle.ot_logic.specs.Names.{Name}
+use Rattle.ot_logic.specs.Naming.{names}
+use Rattle.ot_logic.specs.Lists.{IsMember, IsPart, AreDistinct}
+use Rattle.ot_logic.specs.Table.{IsInjective}
+use Rattle.ot_logic.specs.Trees.{Ty, Variable, Tm}
+use Rattle.ot_logic.specs.Hol.{same_var, vars_ty, vars_tm, type_of, IsFree}
 use Rattle.ot_laws.specs.Conditions.{are_distinct, are_names_of, is_closed_but, keeps_type_vars}
 use Rattle.ot_laws.proofs.Tests.{tells_names, same_var-is}
 use Rattle.ot_laws.proofs.Membership.{any-is, are_names_of-is, is_closed_but-is, are_distinct-is}
@@ -27,7 +27,7 @@ use Rattle.ot_rules.specs.declared.parts.Parts.{Parts}
 use Rattle.ot_rules.proofs.Marked.{free-from_mark, mark-from_free, var-from_term}
 use Rattle.ot_rules.proofs.Marked.{term-from_var, var-from_mark, mark-from_var}
 use Rattle.ot_rules.proofs.Signed.{mark-is}
-use Rattle.ot_plain.proofs.Members.{All-at_member, IsMember-map, IsMember-map_back}
+use Rattle.ot_logic.proofs.Members.{All-at_member, IsMember-map, IsMember-map_back}
 
 -- ---- tests of each mark
 all-decides : {X : Type 0} (p : X → Bool) (P : X → Type 0) → ((x : X) → Decides (p x) (P x)) → (xs : List X)

@@ -4,13 +4,13 @@ use Rattle.std.specs.List.{All, list_any}
 use Rattle.std.proofs.Common.{◌≡◌, ℕ, Bool, true, false, List, [], ◌∷◌, ◌++◌, nat_eq, Option}
 use Rattle.std.proofs.Common.{Some, None, Result, Ok, Err, refl, sym, ap, ◌∙◌, subst}
 use Rattle.std.proofs.lemmas.List.Elements.{All-nil, All-cons, All-append, All-filter}
-use Rattle.ot_plain.specs.Names.{Name}
-use Rattle.ot_plain.specs.Naming.{names}
-use Rattle.ot_plain.specs.Trees.{Ty, Tm, Free, Con, Bound, App, Abs, Variable, Sequent}
-use Rattle.ot_plain.specs.Hol.{fun_ty, bool_ty, as_fun_ty, type_in, type_of, same_ty, same_tm, close}
-use Rattle.ot_plain.specs.Hol.{opened, equation, as_equation, union, minus, is_free_in_some, sequent_of}
-use Rattle.ot_plain.specs.Answers.{◌>>=◌, unless, some_or}
-use Rattle.ot_plain.specs.Table.{Extends, IsInjective}
+use Rattle.ot_logic.specs.Names.{Name}
+use Rattle.ot_logic.specs.Naming.{names}
+use Rattle.ot_logic.specs.Trees.{Ty, Tm, Free, Con, Bound, App, Abs, Variable, Sequent}
+use Rattle.ot_logic.specs.Hol.{fun_ty, bool_ty, as_fun_ty, type_in, type_of, same_ty, same_tm, close}
+use Rattle.ot_logic.specs.Hol.{opened, equation, as_equation, union, minus, is_free_in_some, sequent_of}
+use Rattle.ot_logic.specs.Answers.{◌>>=◌, unless, some_or}
+use Rattle.ot_logic.specs.Table.{Extends, IsInjective}
 use Rattle.ot_laws.proofs.Typing.{type_of-is}
 use Rattle.ot_records.specs.Tokens.{LogFault, BadStep}
 use Rattle.ot_records.specs.Steps.{Step, is_well_typed, is_proposition, refl_step, assume_step}

@@ -3,13 +3,13 @@ use Rattle.std.specs.List.{list_all}
 use Rattle.std.specs.Prelude.{◌==◌}
 use Rattle.std.proofs.Common.{◌≡◌, Bool, true, false, ◌&&◌, List, [], ◌∷◌, map}
 use Rattle.std.proofs.Common.{length, Option, Some, None, Result, refl, sym, ap, ◌∙◌}
-use Rattle.ot_plain.specs.Names.{Name}
-use Rattle.ot_plain.specs.Naming.{names}
-use Rattle.ot_plain.specs.Trees.{Variable, Tm, Sequent, Symbol, ConSymbol, OpSymbol}
-use Rattle.ot_plain.specs.Hol.{same_var, vars_tm, symbols_tm, symbols_of}
-use Rattle.ot_plain.specs.Answers.{◌>>=◌, unless, some_or}
-use Rattle.ot_plain.specs.Faults.{Fault, NotClosed, TypeVarEscapes, BadDefinitionList}
-use Rattle.ot_plain.specs.Faults.{HypothesesPresent, NotApplication, BadTypeVars}
+use Rattle.ot_logic.specs.Names.{Name}
+use Rattle.ot_logic.specs.Naming.{names}
+use Rattle.ot_logic.specs.Trees.{Variable, Tm, Sequent, Symbol, ConSymbol, OpSymbol}
+use Rattle.ot_logic.specs.Hol.{same_var, vars_tm, symbols_tm, symbols_of}
+use Rattle.ot_logic.specs.Answers.{◌>>=◌, unless, some_or}
+use Rattle.ot_logic.specs.Faults.{Fault, NotClosed, TypeVarEscapes, BadDefinitionList}
+use Rattle.ot_logic.specs.Faults.{HypothesesPresent, NotApplication, BadTypeVars}
 use Rattle.ot_laws.specs.Conditions.{are_distinct, are_names_of, is_closed, is_closed_but}
 use Rattle.ot_laws.specs.Conditions.{is_empty, function_of, keeps_type_vars, terms_given}
 use Rattle.ot_laws.specs.Conditions.{checked_symbols, checked_const, checked_list, checked_type}

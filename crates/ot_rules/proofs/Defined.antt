@@ -3,12 +3,12 @@ use Rattle.std.specs.List.{All}
 use Rattle.std.proofs.Common.{◌≡◌, Bool, true, false, ◌&&◌, List, [], ◌∷◌, map}
 use Rattle.std.proofs.Common.{Some, None, Ok, Err, refl, sym, ap, ◌∙◌, subst}
 use Rattle.std.proofs.lemmas.List.Elements.{All-nil, All-cons}
-use Rattle.ot_plain.specs.Names.{Name}
-use Rattle.ot_plain.specs.Naming.{names}
-use Rattle.ot_plain.specs.Trees.{Ty, TyOp, Variable, Tm, Con, App, Sequent, Definition, ConDef, ListDef, TyDef}
-use Rattle.ot_plain.specs.Hol.{type_in, equation, sequent_of, theorems}
-use Rattle.ot_plain.specs.Hol.{type_theorems, tys_of_vars, HasType, IsWellTyped}
-use Rattle.ot_plain.specs.Answers.{◌>>=◌}
+use Rattle.ot_logic.specs.Names.{Name}
+use Rattle.ot_logic.specs.Naming.{names}
+use Rattle.ot_logic.specs.Trees.{Ty, TyOp, Variable, Tm, Con, App, Sequent, Definition, ConDef, ListDef, TyDef}
+use Rattle.ot_logic.specs.Hol.{type_in, equation, sequent_of, theorems}
+use Rattle.ot_logic.specs.Hol.{type_theorems, tys_of_vars, HasType, IsWellTyped}
+use Rattle.ot_logic.specs.Answers.{◌>>=◌}
 use Rattle.ot_laws.specs.Conditions.{is_empty, function_of, checked_const, checked_list, checked_type}
 use Rattle.ot_laws.proofs.Typing.{type_of-is, applied-some}
 use Rattle.ot_laws.proofs.Tests.{tells_names}

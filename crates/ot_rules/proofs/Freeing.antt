@@ -2,11 +2,11 @@
 use Rattle.std.specs.Prelude.{◌≢◌, not}
 use Rattle.std.proofs.Common.{◌≡◌, ℕ, suc, Bool, cond, nat_eq, sym, ap, ◌∙◌, inl, inr}
 use Rattle.std.proofs.Common.{List, ◌||◌, ◌+◌, ◌<◌, length, get_or, drop}
-use Rattle.ot_plain.specs.Names.{Name}
-use Rattle.ot_plain.specs.Naming.{names}
-use Rattle.ot_plain.specs.Trees.{Variable, Tm, Free, Con, Bound, App, Abs}
-use Rattle.ot_plain.specs.Hol.{same_tm, close, close_at, is_free, is_free_in_some, IsFree}
-use Rattle.ot_plain.specs.Table.{Extends, IsInjective}
+use Rattle.ot_logic.specs.Names.{Name}
+use Rattle.ot_logic.specs.Naming.{names}
+use Rattle.ot_logic.specs.Trees.{Variable, Tm, Free, Con, Bound, App, Abs}
+use Rattle.ot_logic.specs.Hol.{same_tm, close, close_at, is_free, is_free_in_some, IsFree}
+use Rattle.ot_logic.specs.Table.{Extends, IsInjective}
 use Rattle.ot_laws.proofs.Tests.{tells_names, cases_of, var_cases, tm_cases, is_free-is}
 use Rattle.ot_laws.proofs.Terms.{close_at_fresh}
 use Rattle.ot_nodes.specs.Items.{Item, HasTerm, IsTerm, term_at}

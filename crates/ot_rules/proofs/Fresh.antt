@@ -2,12 +2,12 @@
 use Rattle.std.specs.Prelude.{if◌then◌else◌}
 use Rattle.std.specs.List.{list_any}
 use Rattle.std.proofs.Common.{◌≡◌, Bool, true, false, ◌&&◌, ◌||◌, not, List, [], ◌∷◌, Result, Ok, Err, refl, ap, ◌∙◌}
-use Rattle.ot_plain.specs.Names.{Name}
-use Rattle.ot_plain.specs.Naming.{names}
-use Rattle.ot_plain.specs.Trees.{Symbol}
-use Rattle.ot_plain.specs.Hol.{primitives}
-use Rattle.ot_plain.specs.Answers.{◌>>=◌, unless}
-use Rattle.ot_plain.specs.Faults.{Fault, Primitive, AlreadyDefined, SymbolInUse}
+use Rattle.ot_logic.specs.Names.{Name}
+use Rattle.ot_logic.specs.Naming.{names}
+use Rattle.ot_logic.specs.Trees.{Symbol}
+use Rattle.ot_logic.specs.Hol.{primitives}
+use Rattle.ot_logic.specs.Answers.{◌>>=◌, unless}
+use Rattle.ot_logic.specs.Faults.{Fault, Primitive, AlreadyDefined, SymbolInUse}
 use Rattle.ot_records.specs.Tokens.{LogFault, BadStep}
 use Rattle.ot_records.specs.Steps.{or_bad}
 use Rattle.ot_laws.specs.Conditions.{is_among, refuse_first, refuse_defined, checked_symbols}

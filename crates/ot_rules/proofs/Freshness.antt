@@ -7,14 +7,14 @@ use Rattle.std.proofs.lemmas.Bool.Decides.{Decides-like, Decides-or, same_from_d
 use Rattle.std.proofs.lemmas.List.{append-nil}
 use Rattle.std.proofs.lemmas.List.Elements.{All-head, All-tail, All-nil, All-cons, All-weaker}
 use Rattle.indexmap.specs.IndexSet.{insert_key, insert_all}
-use Rattle.ot_plain.specs.Names.{Name}
-use Rattle.ot_plain.specs.Naming.{names}
-use Rattle.ot_plain.specs.Lists.{IsMember, IsSameSet}
-use Rattle.ot_plain.specs.Table.{Extends, IsInjective}
-use Rattle.ot_plain.specs.Trees.{Variable, Tm, Sequent, Symbol, ConSymbol}
-use Rattle.ot_plain.specs.Trees.{OpSymbol, Definition, ConDef, ListDef, TyDef}
-use Rattle.ot_plain.specs.Hol.{primitives, defined, used, premise_symbols, symbols_tm}
-use Rattle.ot_plain.specs.Hol.{symbols_all, symbols_of, symbols_in, theorems}
+use Rattle.ot_logic.specs.Names.{Name}
+use Rattle.ot_logic.specs.Naming.{names}
+use Rattle.ot_logic.specs.Lists.{IsMember, IsSameSet}
+use Rattle.ot_logic.specs.Table.{Extends, IsInjective}
+use Rattle.ot_logic.specs.Trees.{Variable, Tm, Sequent, Symbol, ConSymbol}
+use Rattle.ot_logic.specs.Trees.{OpSymbol, Definition, ConDef, ListDef, TyDef}
+use Rattle.ot_logic.specs.Hol.{primitives, defined, used, premise_symbols, symbols_tm}
+use Rattle.ot_logic.specs.Hol.{symbols_all, symbols_of, symbols_in, theorems}
 use Rattle.ot_laws.specs.Conditions.{same_symbol, is_among}
 use Rattle.ot_laws.proofs.Tests.{tells_names}
 use Rattle.ot_laws.proofs.Membership.{any-is, same_symbol-is}
@@ -38,7 +38,7 @@ use Rattle.ot_rules.proofs.Marked.{symbol-from_mark, mark-from_symbol}
 use Rattle.ot_rules.proofs.Marked.{symbols-from_marks, marks-from_symbols, either-to}
 use Rattle.ot_rules.proofs.Staying.{map-agree}
 use Rattle.ot_rules.proofs.Signed.{mark-is, mark-one, marked-among, marked-as, has-mark}
-use Rattle.ot_plain.proofs.Members.{All-at_member, IsMember-map, IsMember-map_back}
+use Rattle.ot_logic.proofs.Members.{All-at_member, IsMember-map, IsMember-map_back}
 
 -- the code's test of a mark, after those before it
 abbrev pub fresh_mark : Signature → List Mark → List Mark → Mark → Bool

@@ -8,20 +8,20 @@ use Rattle.std.proofs.lemmas.List.{append_assoc, append-nil, take_more, map_more
 use Rattle.std.proofs.lemmas.List.Elements.{All-push, All-head, All-tail}
 use Rattle.std.proofs.lemmas.Bool.Decides.{Decides-eqb}
 use Rattle.indexmap.specs.IndexSet.{insert_key}
-use Rattle.ot_plain.specs.Lists.{IsMember, IsPart, IsSameSet}
+use Rattle.ot_logic.specs.Lists.{IsMember, IsPart, IsSameSet}
 use Rattle.ot_laws.proofs.Sets.{same_set-self, same_set-then, same_set-append}
 use Rattle.ot_laws.proofs.Membership.{any-is}
 use Rattle.ot_nodes.specs.Items.{Item, type_at, types_at, term_at}
-use Rattle.ot_plain.specs.Names.{Name}
-use Rattle.ot_plain.specs.Trees.{Tm, Sequent}
+use Rattle.ot_logic.specs.Names.{Name}
+use Rattle.ot_logic.specs.Trees.{Tm, Sequent}
 use Rattle.ot_rules.specs.Statements.{terms_at, sequent_at}
 use Rattle.ot_rules.specs.declared.statement.Statement.{Statement}
 use Rattle.ot_rules.specs.Parts.{Occurring, marks_ty, marks_all, marks_tm, marks_each, marks_sequent}
 use Rattle.ot_rules.specs.Parts.{marks_sequents, mark_at, HasMark, marks_at, IsGoneOver, Gathers, IsOf}
 use Rattle.ot_rules.specs.declared.parts.Mark.{Mark}
 use Rattle.ot_rules.specs.declared.parts.Parts.{Parts}
-use Rattle.ot_plain.proofs.Members.{IsMember-cases, IsMember-left, IsMember-map, IsMember-right}
-use Rattle.ot_plain.proofs.Results.{on_ok-then}
+use Rattle.ot_logic.proofs.Members.{IsMember-cases, IsMember-left, IsMember-map, IsMember-right}
+use Rattle.ot_logic.proofs.Results.{on_ok-then}
 
 -- ---- a key in a set
 module _ {K : Type 0} (eq : K → K → Bool) (is : (x y : K) → Decides (eq x y) (x ≡ y)) where

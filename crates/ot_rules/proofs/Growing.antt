@@ -2,11 +2,11 @@
 use Rattle.std.specs.List.{All}
 use Rattle.std.proofs.Common.{◌≡◌, ℕ, ◌+◌, ◌<◌, List, [], ◌∷◌, ◌++◌, map, length, get_or, take, refl, sym, ap, ◌∙◌}
 use Rattle.std.proofs.lemmas.List.{map_more, map-append}
-use Rattle.ot_plain.specs.Names.{Name}
-use Rattle.ot_plain.specs.Naming.{names}
-use Rattle.ot_plain.specs.Table.{Extends}
-use Rattle.ot_plain.specs.Trees.{Ty, Tys, TyVar, NoTys, MoreTys, Tm, Con, Variable}
-use Rattle.ot_plain.specs.Hol.{tys_of_vars, constants_for}
+use Rattle.ot_logic.specs.Names.{Name}
+use Rattle.ot_logic.specs.Naming.{names}
+use Rattle.ot_logic.specs.Table.{Extends}
+use Rattle.ot_logic.specs.Trees.{Ty, Tys, TyVar, NoTys, MoreTys, Tm, Con, Variable}
+use Rattle.ot_logic.specs.Hol.{tys_of_vars, constants_for}
 use Rattle.ot_nodes.specs.Items.{Item, HasName, HasType, HasTerm, IsType, IsTerm, name_at, type_at, types_at, term_at}
 use Rattle.ot_nodes.specs.Changing.{changed, changing, variable_at, term_map, HasVariable, HasTerms, HasChange}
 use Rattle.ot_nodes.specs.declared.table.change.Change.{Change}

@@ -9,10 +9,10 @@ use Rattle.std.proofs.lemmas.Bool.Decides.{Decides-like, Decides-and, Decides-eq
 use Rattle.std.proofs.lemmas.List.{map-append}
 use Rattle.std.proofs.lemmas.List.Elements.{All-head, All-tail}
 use Rattle.std.proofs.lemmas.Slice.Eq.{slice_eq-Decides}
-use Rattle.ot_plain.specs.Naming.{names}
-use Rattle.ot_plain.specs.Lists.{IsMember, IsPart, IsSameSet}
-use Rattle.ot_plain.specs.Table.{IsInjective}
-use Rattle.ot_plain.specs.Hol.{same_sequent}
+use Rattle.ot_logic.specs.Naming.{names}
+use Rattle.ot_logic.specs.Lists.{IsMember, IsPart, IsSameSet}
+use Rattle.ot_logic.specs.Table.{IsInjective}
+use Rattle.ot_logic.specs.Hol.{same_sequent}
 use Rattle.ot_laws.proofs.Tests.{tells_names}
 use Rattle.ot_laws.proofs.Hypotheses.{same_sequent-is}
 use Rattle.ot_records.specs.State.{kept_once}
@@ -23,7 +23,7 @@ use Rattle.ot_rules.specs.Keeping.{parts_of, parts_at, key_eq}
 use Rattle.ot_rules.specs.declared.kept.Key.{Key}
 use Rattle.ot_rules.specs.declared.statement.Statement.{Statement}
 use Rattle.ot_rules.proofs.Ordered.{ordered-same, same-ordered}
-use Rattle.ot_plain.proofs.Members.{All-at_member, IsMember-map, IsMember-map_back}
+use Rattle.ot_logic.proofs.Members.{All-at_member, IsMember-map, IsMember-map_back}
 
 -- keys are one where their parts are
 key-parts : (k l : Key) → Decides (key_eq k l) (parts_of k ≡ parts_of l)

@@ -1,15 +1,15 @@
 -- What occurs in a term: its free variables, type variables and symbols.
 use Rattle.std.proofs.Common.{◌≡◌, List, [], ◌∷◌, ◌++◌, ap, subst, inl, inr}
-use Rattle.ot_plain.specs.Names.{Name}
-use Rattle.ot_plain.specs.Naming.{names}
-use Rattle.ot_plain.specs.Lists.{IsMember}
-use Rattle.ot_plain.specs.Trees.{Ty, Tys, TyVar, TyOp, NoTys, MoreTys, Variable, Tm}
-use Rattle.ot_plain.specs.Trees.{Free, Con, Bound, App, Abs, Symbol, ConSymbol, OpSymbol}
-use Rattle.ot_plain.specs.Hol.{vars_ty, vars_all, vars_tm, ops_ty, ops_all}
-use Rattle.ot_plain.specs.Hol.{symbols_ty, symbols_tm, symbols_all, IsFree}
+use Rattle.ot_logic.specs.Names.{Name}
+use Rattle.ot_logic.specs.Naming.{names}
+use Rattle.ot_logic.specs.Lists.{IsMember}
+use Rattle.ot_logic.specs.Trees.{Ty, Tys, TyVar, TyOp, NoTys, MoreTys, Variable, Tm}
+use Rattle.ot_logic.specs.Trees.{Free, Con, Bound, App, Abs, Symbol, ConSymbol, OpSymbol}
+use Rattle.ot_logic.specs.Hol.{vars_ty, vars_all, vars_tm, ops_ty, ops_all}
+use Rattle.ot_logic.specs.Hol.{symbols_ty, symbols_tm, symbols_all, IsFree}
 use Rattle.ot_rules.specs.Parts.{TypeVar, Operator, Constant, FreeVar, marks_ty, marks_all, marks_tm, marks_each}
 use Rattle.ot_rules.specs.Symbols.{mark_of}
-use Rattle.ot_plain.proofs.Members.{IsMember-cases, IsMember-left, IsMember-map, IsMember-map_back, IsMember-right}
+use Rattle.ot_logic.proofs.Members.{IsMember-cases, IsMember-left, IsMember-map, IsMember-map_back, IsMember-right}
 
 -- members of a list after another
 pub either-to : {X Y : Type 0} (x : X) (y : Y) (xs us : List X) (ys vs : List Y) → (IsMember x xs → IsMember y ys)

@@ -8,11 +8,11 @@ use Rattle.std.proofs.Common.{map, Some, nat_eq, eq-eqb, eqb-true, true≢false,
 use Rattle.std.proofs.lemmas.List.Elements.{All-head, All-tail, All-nil, All-cons}
 use Rattle.std.proofs.lemmas.List.{take_all, length-drop, map-append}
 use Rattle.std.proofs.lemmas.Option.{slice_get_within, get_or_from_slice_get}
-use Rattle.ot_plain.specs.Names.{Name}
-use Rattle.ot_plain.specs.Naming.{names}
-use Rattle.ot_plain.specs.Trees.{Tm}
-use Rattle.ot_plain.specs.Hol.{same_tm, is_in, minus, lacking, union, once_each}
-use Rattle.ot_plain.specs.Table.{IsInjective}
+use Rattle.ot_logic.specs.Names.{Name}
+use Rattle.ot_logic.specs.Naming.{names}
+use Rattle.ot_logic.specs.Trees.{Tm}
+use Rattle.ot_logic.specs.Hol.{same_tm, is_in, minus, lacking, union, once_each}
+use Rattle.ot_logic.specs.Table.{IsInjective}
 use Rattle.ot_laws.proofs.Tests.{tells_names, same_tm-is}
 use Rattle.ot_nodes.specs.Items.{Item, HasTerm, term_at}
 use Rattle.ot_nodes.proofs.ItemLemmas.{term-one}

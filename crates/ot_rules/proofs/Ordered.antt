@@ -5,7 +5,7 @@ use Rattle.std.specs.declared.cmp.Ordering.{Ordering}
 use Rattle.std.specs.declared.cmp.Ordering.TheVariants.{Less, Equal, Greater}
 use Rattle.std.proofs.lemmas.Cmp.{ranked}
 use Rattle.std.proofs.Common.{◌≡◌, ℕ, ◌<◌, List, [], ◌∷◌, ◌⊎◌, fold, refl, sym, ◌∙◌, subst, inl, inr, arith}
-use Rattle.ot_plain.specs.Lists.{IsMember, IsPart, IsSameSet}
+use Rattle.ot_logic.specs.Lists.{IsMember, IsPart, IsSameSet}
 use Rattle.ot_rules.specs.Keeping.{ordered}
 
 -- ---- members

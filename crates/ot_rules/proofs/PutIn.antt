@@ -2,13 +2,13 @@
 use Rattle.std.specs.Prelude.{Result, IfOk}
 use Rattle.std.specs.List.{list_all}
 use Rattle.std.proofs.Common.{◌≡◌, ℕ, Bool, true, false, List, [], map, nat_eq, Some, Ok, Err, sym, ap, ◌∙◌}
-use Rattle.ot_plain.specs.Names.{Name}
-use Rattle.ot_plain.specs.Naming.{names}
-use Rattle.ot_plain.specs.Table.{Extends, IsInjective}
-use Rattle.ot_plain.specs.Trees.{Ty, Tm}
-use Rattle.ot_plain.specs.Hol.{same_ty, type_in, TypeMap, TermMap, subst_tm, once_each, sequent_of}
-use Rattle.ot_plain.specs.Rules.{has_type}
-use Rattle.ot_plain.specs.declared.memory.Memory.{Memory}
+use Rattle.ot_logic.specs.Names.{Name}
+use Rattle.ot_logic.specs.Naming.{names}
+use Rattle.ot_logic.specs.Table.{Extends, IsInjective}
+use Rattle.ot_logic.specs.Trees.{Ty, Tm}
+use Rattle.ot_logic.specs.Hol.{same_ty, type_in, TypeMap, TermMap, subst_tm, once_each, sequent_of}
+use Rattle.ot_logic.specs.Rules.{has_type}
+use Rattle.ot_logic.specs.declared.memory.Memory.{Memory}
 use Rattle.ot_laws.proofs.Tests.{tells_names}
 use Rattle.ot_records.specs.Tokens.{BadStep}
 use Rattle.ot_records.specs.Steps.{Step, first_pairs, first_types, subst_step}

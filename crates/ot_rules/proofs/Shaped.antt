@@ -4,11 +4,11 @@ use Rattle.std.specs.Bool.{Decides}
 use Rattle.std.proofs.Common.{◌≡◌, length, arith, ℕ, Bool, true, false, ◌&&◌, List, [], ◌∷◌, Option}
 use Rattle.std.proofs.Common.{Some, None, nat_eq, eq-eqb, eqb-true, true≢false, refl, sym, ap, ◌∙◌}
 use Rattle.std.proofs.lemmas.Option.{same_Some}
-use Rattle.ot_plain.specs.Names.{Name}
-use Rattle.ot_plain.specs.Naming.{names}
-use Rattle.ot_plain.specs.Trees.{Ty, TyOp, NoTys, MoreTys, Tm, Con, App}
-use Rattle.ot_plain.specs.Hol.{fun_ty, bool_ty, as_fun_ty, equation, as_equation}
-use Rattle.ot_plain.specs.Table.{Extends, IsInjective}
+use Rattle.ot_logic.specs.Names.{Name}
+use Rattle.ot_logic.specs.Naming.{names}
+use Rattle.ot_logic.specs.Trees.{Ty, TyOp, NoTys, MoreTys, Tm, Con, App}
+use Rattle.ot_logic.specs.Hol.{fun_ty, bool_ty, as_fun_ty, equation, as_equation}
+use Rattle.ot_logic.specs.Table.{Extends, IsInjective}
 use Rattle.ot_laws.proofs.Tests.{tells_names}
 use Rattle.ot_laws.proofs.Typing.{as_fun_ty-some, as_fun_ty-fun}
 use Rattle.ot_laws.proofs.Equations.{as_equation-equation, as_equation-some}

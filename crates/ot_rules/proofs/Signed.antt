@@ -3,11 +3,11 @@ use Rattle.std.specs.Bool.{Decides}
 use Rattle.std.specs.List.{All}
 use Rattle.std.proofs.Common.{◌≡◌, ◌&&◌, List, map, nat_eq, refl, sym, ap, ◌∙◌, subst}
 use Rattle.std.proofs.lemmas.Bool.Decides.{Decides-like, Decides-and, Decides-eqb, same_from_decides}
-use Rattle.ot_plain.specs.Names.{Name}
-use Rattle.ot_plain.specs.Naming.{names}
-use Rattle.ot_plain.specs.Lists.{IsMember}
-use Rattle.ot_plain.specs.Table.{IsInjective}
-use Rattle.ot_plain.specs.Trees.{Symbol}
+use Rattle.ot_logic.specs.Names.{Name}
+use Rattle.ot_logic.specs.Naming.{names}
+use Rattle.ot_logic.specs.Lists.{IsMember}
+use Rattle.ot_logic.specs.Table.{IsInjective}
+use Rattle.ot_logic.specs.Trees.{Symbol}
 use Rattle.ot_laws.proofs.Tests.{tells_names}
 use Rattle.ot_laws.specs.Conditions.{is_among}
 use Rattle.ot_laws.proofs.Membership.{any-is, is_among-is}
@@ -19,7 +19,7 @@ use Rattle.ot_rules.specs.Parts.{HasMark, mark_at}
 use Rattle.ot_rules.specs.Symbols.{mark_of, HasSymbols, symbol_of, IsSymbolMark, mark_eq, is_marked}
 use Rattle.ot_rules.specs.declared.parts.Mark.{Mark}
 use Rattle.ot_rules.specs.declared.parts.Mark.TheVariants as mark
-use Rattle.ot_plain.proofs.Members.{All-at_member, IsMember-map, IsMember-map_back}
+use Rattle.ot_logic.proofs.Members.{All-at_member, IsMember-map, IsMember-map_back}
 
 -- the test of variables and of marks
 variable-is : (v w : VariableNode) → Decides (nat_eq v.name w.name && nat_eq v.ty w.ty) (v ≡ w)

@@ -2,8 +2,8 @@
 use Rattle.std.specs.List.{All}
 use Rattle.std.proofs.Common.{◌≡◌, ℕ, List, [], ◌∷◌, map, refl}
 use Rattle.std.proofs.lemmas.List.Elements.{All-head, All-tail, All-weaker}
-use Rattle.ot_plain.specs.Table.{Extends}
-use Rattle.ot_plain.specs.Trees.{ConDef, ListDef, TyDef}
+use Rattle.ot_logic.specs.Table.{Extends}
+use Rattle.ot_logic.specs.Trees.{ConDef, ListDef, TyDef}
 use Rattle.ot_nodes.specs.Items.{Item, HasName, HasTerm, name_at, term_at}
 use Rattle.ot_nodes.specs.Changing.{variable_at, HasVariable}
 use Rattle.ot_nodes.specs.declared.node.VariableNode.{VariableNode}

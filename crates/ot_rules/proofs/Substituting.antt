@@ -8,8 +8,8 @@ use Rattle.std.proofs.Common.{◌≡◌, ℕ, Bool, true, false, ◌||◌, cond,
 use Rattle.std.proofs.Common.{Some, None, nat_eq, true≢false, refl, sym, ap, ◌∙◌, subst}
 use Rattle.std.proofs.lemmas.List.Elements.{All-head, All-tail, All-nil, All-cons, All-filter}
 use Rattle.std.proofs.lemmas.List.{append_assoc}
-use Rattle.ot_plain.specs.Naming.{names}
-use Rattle.ot_plain.specs.Table.{IsInjective}
+use Rattle.ot_logic.specs.Naming.{names}
+use Rattle.ot_logic.specs.Table.{IsInjective}
 use Rattle.ot_records.specs.Steps.{without, first_pairs, without_name, first_types}
 use Rattle.ot_nodes.specs.Items.{Item, HasName, HasType, HasTerm, name_at, type_at, term_at}
 use Rattle.ot_nodes.specs.Changing.{variable_at, type_map, term_map, HasVariable, HasTypes, HasTerms}

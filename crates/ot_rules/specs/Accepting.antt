@@ -1,10 +1,10 @@
 -- Definitions with their theorems, by number.
 use Rattle.std.specs.Prelude.{◌≡◌, List, map}
 use Rattle.std.specs.List.{All}
-use Rattle.ot_plain.specs.Names.{Name}
-use Rattle.ot_plain.specs.Naming.{names}
-use Rattle.ot_plain.specs.Trees.{Definition}
-use Rattle.ot_plain.specs.Hol.{theorems}
+use Rattle.ot_logic.specs.Names.{Name}
+use Rattle.ot_logic.specs.Naming.{names}
+use Rattle.ot_logic.specs.Trees.{Definition}
+use Rattle.ot_logic.specs.Hol.{theorems}
 use Rattle.ot_nodes.specs.Items.{Item}
 use Rattle.ot_rules.specs.Statements.{sequent_at, HasStatement}
 use Rattle.ot_rules.specs.Definitions.{definition_at, HasDefinition}

@@ -1,10 +1,10 @@
 -- What is asked of the terms of a definition, by the marks of what occurs in them.
 use Rattle.std.specs.Prelude.{◌≡◌, ◌&&◌, ℕ, nat_eq, Bool, true, List, [], ◌∷◌, map, Option, None, Some}
 use Rattle.std.specs.List.{list_any}
-use Rattle.ot_plain.specs.Names.{Name}
-use Rattle.ot_plain.specs.Naming.{names}
-use Rattle.ot_plain.specs.Trees.{Alphabet, Tm}
-use Rattle.ot_plain.specs.Hol.{IsWellTyped, type_of}
+use Rattle.ot_logic.specs.Names.{Name}
+use Rattle.ot_logic.specs.Naming.{names}
+use Rattle.ot_logic.specs.Trees.{Alphabet, Tm}
+use Rattle.ot_logic.specs.Hol.{IsWellTyped, type_of}
 use Rattle.ot_laws.specs.Conditions.{is_closed, keeps_type_vars}
 use Rattle.ot_nodes.specs.Items.{Item, HasType, HasTerm, type_at, term_at}
 use Rattle.ot_rules.specs.declared.conditions.Given.{Given}

@@ -2,11 +2,11 @@
 use Rattle.std.specs.Prelude.{◌≡◌, ℕ, List, map, Result, Ok, Err}
 use Rattle.std.specs.Global.{Vec}
 use Rattle.std.specs.List.{All}
-use Rattle.ot_plain.specs.Names.{Name}
-use Rattle.ot_plain.specs.Naming.{names}
-use Rattle.ot_plain.specs.Hol.{theorems}
+use Rattle.ot_logic.specs.Names.{Name}
+use Rattle.ot_logic.specs.Naming.{names}
+use Rattle.ot_logic.specs.Hol.{theorems}
 use Rattle.ot_records.specs.Tokens.{LogFault, BadStep}
-use Rattle.ot_plain.specs.Trees.{Variable, Definition, ConDef, ListDef, TyDef}
+use Rattle.ot_logic.specs.Trees.{Variable, Definition, ConDef, ListDef, TyDef}
 use Rattle.ot_nodes.specs.Items.{Item, HasName, HasTerm, name_at, term_at}
 use Rattle.ot_nodes.specs.Changing.{variable_at, HasVariable}
 use Rattle.ot_nodes.specs.declared.node.VariableNode.{VariableNode}

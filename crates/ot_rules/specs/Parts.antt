@@ -1,10 +1,10 @@
 -- What occurs in types and terms.
 use Rattle.std.specs.Prelude.{ℕ, List, [], ◌∷◌, ◌++◌, map}
 use Rattle.std.specs.List.{All}
-use Rattle.ot_plain.specs.Names.{Name}
-use Rattle.ot_plain.specs.Lists.{IsMember, IsPart, IsSameSet}
-use Rattle.ot_plain.specs.Trees.{Ty, Tys, TyVar, TyOp, NoTys, MoreTys, Variable, Tm, Free, Con}
-use Rattle.ot_plain.specs.Trees.{Bound, App, Abs, Sequent, Definition, ConDef, ListDef, TyDef}
+use Rattle.ot_logic.specs.Names.{Name}
+use Rattle.ot_logic.specs.Lists.{IsMember, IsPart, IsSameSet}
+use Rattle.ot_logic.specs.Trees.{Ty, Tys, TyVar, TyOp, NoTys, MoreTys, Variable, Tm, Free, Con}
+use Rattle.ot_logic.specs.Trees.{Bound, App, Abs, Sequent, Definition, ConDef, ListDef, TyDef}
 use Rattle.ot_nodes.specs.Items.{Item, HasName, name_at, type_at, term_at}
 use Rattle.ot_nodes.specs.Changing.{variable_at, HasVariable}
 use Rattle.ot_rules.specs.declared.parts.Mark.{Mark}

@@ -1,8 +1,8 @@
 -- Substitutions by number.
 use Rattle.std.specs.Prelude.{◌≡◌, ℕ, not, is_some, Bool, filter, List, [], ◌∷◌, ◌++◌, map, if◌then◌else◌}
 use Rattle.std.specs.Map.{lookup}
-use Rattle.ot_plain.specs.Naming.{names}
-use Rattle.ot_plain.specs.Hol.{subst_tm, once_each}
+use Rattle.ot_logic.specs.Naming.{names}
+use Rattle.ot_logic.specs.Hol.{subst_tm, once_each}
 use Rattle.ot_nodes.specs.Items.{Item, term_at}
 use Rattle.ot_nodes.specs.Changing.{Changing, changed, type_map, term_map}
 use Rattle.ot_nodes.specs.declared.node.VariableNode.{VariableNode}

@@ -1,9 +1,9 @@
 -- The shapes of terms and types that steps ask for.
 use Rattle.std.specs.Prelude.{◌≡◌, ℕ, List, Some}
-use Rattle.ot_plain.specs.Names.{Name}
-use Rattle.ot_plain.specs.Naming.{names}
-use Rattle.ot_plain.specs.Trees.{Ty, Tm, Con, App, Abs}
-use Rattle.ot_plain.specs.Hol.{fun_ty, bool_ty, as_equation}
+use Rattle.ot_logic.specs.Names.{Name}
+use Rattle.ot_logic.specs.Naming.{names}
+use Rattle.ot_logic.specs.Trees.{Ty, Tm, Con, App, Abs}
+use Rattle.ot_logic.specs.Hol.{fun_ty, bool_ty, as_equation}
 use Rattle.ot_nodes.specs.Items.{Item, HasType, HasTerm, type_at, term_at}
 use Rattle.ot_rules.specs.declared.shapes.Sides.{Sides}
 

@@ -1,9 +1,9 @@
 -- Sequents by the numbers of their terms.
 use Rattle.std.specs.Prelude.{◌≡◌, ℕ, nat_eq, List, [], ◌∷◌, map, if◌then◌else◌, Result, Ok, Err}
 use Rattle.std.specs.List.{All, list_any}
-use Rattle.ot_plain.specs.Names.{Name}
-use Rattle.ot_plain.specs.Naming.{names}
-use Rattle.ot_plain.specs.Trees.{Tm, Sequent}
+use Rattle.ot_logic.specs.Names.{Name}
+use Rattle.ot_logic.specs.Naming.{names}
+use Rattle.ot_logic.specs.Trees.{Tm, Sequent}
 use Rattle.ot_records.specs.Tokens.{BadStep}
 use Rattle.ot_records.specs.Steps.{Step}
 use Rattle.ot_nodes.specs.Items.{Item, HasTerm, term_at}

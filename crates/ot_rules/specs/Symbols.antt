@@ -2,11 +2,11 @@
 use Rattle.std.specs.Prelude.{◌≡◌, ◌↔◌, ◌&&◌, ◌||◌, not, nat_eq, Bool, true}
 use Rattle.std.specs.Prelude.{false, List, [], ◌∷◌, map, Result, Ok, Err}
 use Rattle.std.specs.List.{All, list_any}
-use Rattle.ot_plain.specs.Names.{Name}
-use Rattle.ot_plain.specs.Naming.{names}
-use Rattle.ot_plain.specs.Lists.{IsMember}
-use Rattle.ot_plain.specs.Trees.{Symbol, ConSymbol, OpSymbol, Definition}
-use Rattle.ot_plain.specs.Hol.{primitives}
+use Rattle.ot_logic.specs.Names.{Name}
+use Rattle.ot_logic.specs.Naming.{names}
+use Rattle.ot_logic.specs.Lists.{IsMember}
+use Rattle.ot_logic.specs.Trees.{Symbol, ConSymbol, OpSymbol, Definition}
+use Rattle.ot_logic.specs.Hol.{primitives}
 use Rattle.ot_laws.specs.Conditions.{is_among}
 use Rattle.ot_records.specs.Steps.{all_defined, all_used}
 use Rattle.ot_nodes.specs.Items.{Item, HasName, name_at}

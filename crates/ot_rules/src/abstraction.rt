@@ -1,10 +1,10 @@
 //! The equation of two abstractions.
 ghost use Rattle.std.specs.Prelude.{◌≡◌, not, IfOk, OnOk};
 ghost use Rattle.std.specs.List.{All};
-ghost use Rattle.ot_plain.specs.Naming.{names};
-ghost use Rattle.ot_plain.specs.Trees.{Abs};
-ghost use Rattle.ot_plain.specs.Hol.{fun_ty, close, equation, is_free, is_free_in_some};
-ghost use Rattle.ot_plain.specs.Table.{Extends};
+ghost use Rattle.ot_logic.specs.Naming.{names};
+ghost use Rattle.ot_logic.specs.Trees.{Abs};
+ghost use Rattle.ot_logic.specs.Hol.{fun_ty, close, equation, is_free, is_free_in_some};
+ghost use Rattle.ot_logic.specs.Table.{Extends};
 ghost use Rattle.ot_records.specs.Steps.{abs_thm_step};
 ghost use Rattle.ot_nodes.specs.Items.{HasTerm, IsTerm, type_at, term_at};
 ghost use Rattle.ot_nodes.specs.Changing.{Closing, variable_at, HasVariable, IsDone};
@@ -13,8 +13,8 @@ ghost use Rattle.ot_rules.specs.Shapes.{HasSides};
 
 use crate::shapes::{Sides, as_equation};
 use crate::statement::{Statement, StepFault};
+use ot_logic::Memory;
 use ot_nodes::{Change, Done, Nodes, TermId, VariableNode};
-use ot_plain::Memory;
 
 /// From `G |- t = u`, with `v` free in no member of `G`, the equation of the abstractions over `v`.
 pub fn abs_thm(nodes: &mut Nodes, v: VariableNode, a: &Statement) -> Result<Statement, StepFault>

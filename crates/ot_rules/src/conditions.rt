@@ -2,10 +2,10 @@
 ghost use Rattle.std.specs.Prelude.{◌≡◌, ◌&&◌, ◌==◌, List, [], ◌∷◌, map, length, Some, IfOk, IfSome};
 ghost use Rattle.std.specs.List.{All, list_all};
 ghost use Rattle.std.specs.Option.{option_map};
-ghost use Rattle.ot_plain.specs.Names.{Name};
-ghost use Rattle.ot_plain.specs.Naming.{names};
-ghost use Rattle.ot_plain.specs.Trees.{Definition as StatedDefinition, ConSymbol, Tm, Free};
-ghost use Rattle.ot_plain.specs.Hol.{type_in, type_of, vars_tm, same_var, same_tm, as_equation, symbols_of};
+ghost use Rattle.ot_logic.specs.Names.{Name};
+ghost use Rattle.ot_logic.specs.Naming.{names};
+ghost use Rattle.ot_logic.specs.Trees.{Definition as StatedDefinition, ConSymbol, Tm, Free};
+ghost use Rattle.ot_logic.specs.Hol.{type_in, type_of, vars_tm, same_var, same_tm, as_equation, symbols_of};
 ghost use Rattle.ot_laws.specs.Conditions.{are_distinct, is_closed, is_closed_but};
 ghost use Rattle.ot_laws.specs.Conditions.{keeps_type_vars, are_names_of, given, given_by, only};
 ghost use Rattle.ot_laws.specs.Conditions.{terms_given, checked_const, checked_list, checked_type};
@@ -27,8 +27,8 @@ use crate::shapes::{as_app, as_equation};
 use crate::signature::Signature;
 use crate::statement::Statement;
 use indexmap::IndexSet;
+use ot_logic::Memory;
 use ot_nodes::{NameId, Nodes, TermId, TermNode, TypeId, VariableNode};
-use ot_plain::Memory;
 use std::alloc::Global;
 
 /// Whether a constant may be defined as a term of this type.

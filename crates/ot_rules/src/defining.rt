@@ -1,12 +1,12 @@
 //! Definitions and their theorems.
 ghost use Rattle.std.specs.Prelude.{◌≡◌, List, map, IfOk};
 ghost use Rattle.std.specs.List.{All};
-ghost use Rattle.ot_plain.specs.Names.{Name};
-ghost use Rattle.ot_plain.specs.Naming.{names};
-ghost use Rattle.ot_plain.specs.Trees.{Definition as StatedDefinition, ConDef};
-ghost use Rattle.ot_plain.specs.Trees.{ListDef, TyDef, TyOp, Con, Bound, App, Abs};
-ghost use Rattle.ot_plain.specs.Hol.{fun_ty, bool_ty, equation, tys_of_vars, constants_for, type_theorems};
-ghost use Rattle.ot_plain.specs.Table.{Extends};
+ghost use Rattle.ot_logic.specs.Names.{Name};
+ghost use Rattle.ot_logic.specs.Naming.{names};
+ghost use Rattle.ot_logic.specs.Trees.{Definition as StatedDefinition, ConDef};
+ghost use Rattle.ot_logic.specs.Trees.{ListDef, TyDef, TyOp, Con, Bound, App, Abs};
+ghost use Rattle.ot_logic.specs.Hol.{fun_ty, bool_ty, equation, tys_of_vars, constants_for, type_theorems};
+ghost use Rattle.ot_logic.specs.Table.{Extends};
 ghost use Rattle.ot_records.specs.Steps.{constant_step, constants_step, type_operator_step};
 ghost use Rattle.ot_nodes.specs.Items.{HasName, HasType, HasTerm, IsType, IsTerm};
 ghost use Rattle.ot_nodes.specs.Items.{name_at, type_at, types_at, term_at};
@@ -25,8 +25,8 @@ use crate::signature::Signature;
 use crate::statement::{Statement, StepFault, alone, both};
 use crate::typing::typing_of;
 use indexmap::IndexMap;
+use ot_logic::Memory;
 use ot_nodes::{NameId, Nodes, TermId, TypeId, Typings, VariableNode};
-use ot_plain::Memory;
 
 /// The theorem of a constant that is defined as a term: that it equals the term.
 pub fn constant(

@@ -1,8 +1,8 @@
 //! Assumptions and results: sequents that are kept once.
 ghost use Rattle.std.specs.Prelude.{◌≡◌, ◌++◌, ◌∷◌, [], map, false, IfOk, OnOk, OnErr};
 ghost use Rattle.std.specs.List.{All, list_all, list_any};
-ghost use Rattle.ot_plain.specs.Naming.{names};
-ghost use Rattle.ot_plain.specs.Table.{Extends};
+ghost use Rattle.ot_logic.specs.Naming.{names};
+ghost use Rattle.ot_logic.specs.Table.{Extends};
 ghost use Rattle.ot_records.specs.Steps.{is_proposition, assumption_step};
 ghost use Rattle.ot_nodes.specs.Items.{HasTerm, term_at};
 ghost use Rattle.ot_nodes.specs.Typing.{AreTypings};
@@ -13,8 +13,8 @@ ghost use Rattle.ot_records.specs.State.{kept_once};
 use crate::statement::{Statement, StepFault, once_each};
 use crate::typing::is_proposition;
 use indexmap::IndexSet;
+use ot_logic::Memory;
 use ot_nodes::{Nodes, TermId, Typings};
-use ot_plain::Memory;
 use std::alloc::Global;
 use std::collections::BTreeSet;
 

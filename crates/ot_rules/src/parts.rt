@@ -8,8 +8,8 @@ ghost use Rattle.ot_rules.specs.Statements.{terms_at, sequent_at, HasStatement};
 
 use crate::statement::Statement;
 use indexmap::IndexSet;
+use ot_logic::Memory;
 use ot_nodes::{NameId, Nodes, TermId, TermNode, TypeId, TypeNode, VariableNode};
-use ot_plain::Memory;
 use std::alloc::Global;
 
 /// What may occur in a type or a term.

@@ -2,10 +2,10 @@
 ghost use Rattle.std.specs.Prelude.{◌≡◌, map, length, IfOk, OnOk};
 ghost use Rattle.std.specs.Bool.{Decides};
 ghost use Rattle.std.specs.List.{All, list_all};
-ghost use Rattle.ot_plain.specs.Naming.{names};
-ghost use Rattle.ot_plain.specs.Hol.{subst_tm};
-ghost use Rattle.ot_plain.specs.Rules.{has_type};
-ghost use Rattle.ot_plain.specs.Table.{Extends};
+ghost use Rattle.ot_logic.specs.Naming.{names};
+ghost use Rattle.ot_logic.specs.Hol.{subst_tm};
+ghost use Rattle.ot_logic.specs.Rules.{has_type};
+ghost use Rattle.ot_logic.specs.Table.{Extends};
 ghost use Rattle.ot_records.specs.Steps.{subst_step};
 ghost use Rattle.ot_nodes.specs.Items.{HasTerm, type_at, term_at};
 ghost use Rattle.ot_nodes.specs.Changing.{changed, changing, type_map, term_map, HasVariable};
@@ -17,8 +17,8 @@ ghost use Rattle.ot_rules.specs.Putting.{firsts, with_new, IsPut, IsChanged};
 use crate::statement::{Statement, StepFault, once_each};
 use crate::typing::typing_of;
 use indexmap::IndexMap;
+use ot_logic::Memory;
 use ot_nodes::{Change, Done, NameId, Nodes, TermId, TypeId, Typings, VariableNode};
-use ot_plain::Memory;
 use std::alloc::Global;
 use std::hash::Hash;
 

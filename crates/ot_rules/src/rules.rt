@@ -1,10 +1,10 @@
 //! The cases of a derivation, without substitution: the sequent that each gives.
 ghost use Rattle.std.specs.Prelude.{◌≡◌, ◌≢◌, [], None, MatchOption, IfOk};
-ghost use Rattle.ot_plain.specs.Names.{Name};
-ghost use Rattle.ot_plain.specs.Naming.{names};
-ghost use Rattle.ot_plain.specs.Trees.{Ty, Tm, App, Abs};
-ghost use Rattle.ot_plain.specs.Hol.{equation, opened};
-ghost use Rattle.ot_plain.specs.Table.{Extends};
+ghost use Rattle.ot_logic.specs.Names.{Name};
+ghost use Rattle.ot_logic.specs.Naming.{names};
+ghost use Rattle.ot_logic.specs.Trees.{Ty, Tm, App, Abs};
+ghost use Rattle.ot_logic.specs.Hol.{equation, opened};
+ghost use Rattle.ot_logic.specs.Table.{Extends};
 ghost use Rattle.ot_records.specs.Steps.{refl_step, assume_step, eq_mp_step};
 ghost use Rattle.ot_records.specs.Steps.{app_thm_step, deduct_antisym_step, beta_step};
 ghost use Rattle.ot_nodes.specs.Items.{HasType, HasTerm, IsTerm, type_at, term_at};
@@ -15,8 +15,8 @@ ghost use Rattle.ot_rules.specs.Shapes.{HasSides, IsAbs};
 use crate::shapes::{Sides, as_app, as_equation};
 use crate::statement::{Statement, StepFault, minus, union};
 use crate::typing::{is_proposition, typing_of};
+use ot_logic::Memory;
 use ot_nodes::{Change, Done, Nodes, TermId, TermNode, TypeId, Typings};
-use ot_plain::Memory;
 
 /// `t = t`, of a term that is well typed.
 pub fn refl(nodes: &mut Nodes, typings: &mut Typings, t: TermId) -> Result<Statement, StepFault>

@@ -5,7 +5,7 @@ ghost use Rattle.indexmap.specs.IndexSet.{insert_key};
 ghost use Rattle.ot_laws.specs.Conditions.{are_distinct};
 
 use indexmap::IndexSet;
-use ot_plain::Memory;
+use ot_logic::Memory;
 use std::alloc::Global;
 use std::hash::Hash;
 

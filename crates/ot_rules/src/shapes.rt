@@ -1,10 +1,10 @@
 //! The shapes that steps ask for: applications, equations, and the type of propositions.
 ghost use Rattle.std.specs.Prelude.{◌≡◌, ◌≢◌, ℕ, None, MatchOption};
 ghost use Rattle.std.specs.Bool.{Decides};
-ghost use Rattle.ot_plain.specs.Names.{Name};
-ghost use Rattle.ot_plain.specs.Naming.{names};
-ghost use Rattle.ot_plain.specs.Trees.{Ty, Tm, App};
-ghost use Rattle.ot_plain.specs.Hol.{fun_ty, bool_ty, as_equation};
+ghost use Rattle.ot_logic.specs.Names.{Name};
+ghost use Rattle.ot_logic.specs.Naming.{names};
+ghost use Rattle.ot_logic.specs.Trees.{Ty, Tm, App};
+ghost use Rattle.ot_logic.specs.Hol.{fun_ty, bool_ty, as_equation};
 ghost use Rattle.ot_nodes.specs.Items.{HasType, HasTerm, type_at, term_at};
 ghost use Rattle.ot_rules.specs.Shapes.{IsApp, equals_at, IsEquals, IsRelation, AreSides};
 

@@ -1,10 +1,10 @@
 //! The symbols of the definitions so far, and whether further ones may be defined.
 ghost use Rattle.std.specs.Prelude.{◌≡◌, ◌||◌, ◌&&◌, ◌++◌, ◌∷◌, not, map, [], List, IfOk, OnOk, OnErr};
 ghost use Rattle.std.specs.List.{All, list_any};
-ghost use Rattle.ot_plain.specs.Names.{Name};
-ghost use Rattle.ot_plain.specs.Naming.{names};
-ghost use Rattle.ot_plain.specs.Trees.{Definition as StatedDefinition, Symbol};
-ghost use Rattle.ot_plain.specs.Hol.{defined, theorems};
+ghost use Rattle.ot_logic.specs.Names.{Name};
+ghost use Rattle.ot_logic.specs.Naming.{names};
+ghost use Rattle.ot_logic.specs.Trees.{Definition as StatedDefinition, Symbol};
+ghost use Rattle.ot_logic.specs.Hol.{defined, theorems};
 ghost use Rattle.ot_records.specs.Steps.{all_defined, all_used};
 ghost use Rattle.ot_nodes.specs.Items.{HasName};
 ghost use Rattle.ot_rules.specs.Definitions.{definition_at, HasDefinition};
@@ -20,8 +20,8 @@ use crate::parts::{Mark, Parts};
 use crate::sets::add_all;
 use crate::statement::Statement;
 use indexmap::IndexSet;
+use ot_logic::Memory;
 use ot_nodes::{NameId, Nodes, VariableNode};
-use ot_plain::Memory;
 use std::alloc::Global;
 
 /// The symbols that were defined so far, and what occurs in the definitions.

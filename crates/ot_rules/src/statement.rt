@@ -4,8 +4,8 @@ ghost use Rattle.std.specs.List.{list_any};
 ghost use Rattle.ot_rules.specs.Statements.{once_of};
 ghost use Rattle.ot_rules.specs.declared.statement.StepFault.TheVariants.{Memory as OutOfMemory};
 
+use ot_logic::Memory;
 use ot_nodes::TermId;
-use ot_plain::Memory;
 use std::alloc::{AllocError, AllocFailed, Global};
 
 /// A sequent: its hypotheses, no two of them one term, and its conclusion.

@@ -1,9 +1,9 @@
 //! Types of terms, and the nesting limit.
 ghost use Rattle.std.specs.Prelude.{◌≡◌, [], map, IfOk};
 ghost use Rattle.std.specs.List.{All, list_all};
-ghost use Rattle.ot_plain.specs.Naming.{names};
-ghost use Rattle.ot_plain.specs.Hol.{IsWellTyped};
-ghost use Rattle.ot_plain.specs.Table.{Extends};
+ghost use Rattle.ot_logic.specs.Naming.{names};
+ghost use Rattle.ot_logic.specs.Hol.{IsWellTyped};
+ghost use Rattle.ot_logic.specs.Table.{Extends};
 ghost use Rattle.ot_records.specs.Steps.{is_proposition, is_within, is_sequent_within};
 ghost use Rattle.ot_nodes.specs.Items.{HasTerm, term_at};
 ghost use Rattle.ot_nodes.specs.Typing.{IsTyping, AreTypings};
@@ -12,8 +12,8 @@ ghost use Rattle.ot_rules.specs.Limits.{AreWellTyped};
 
 use crate::shapes::is_boolean;
 use crate::statement::Statement;
+use ot_logic::Memory;
 use ot_nodes::{DEPTH_LIMIT, Nodes, TermId, Typed, Typings};
-use ot_plain::Memory;
 use std::mem;
 
 /// The type of a term, or `None` where it isn't well typed. After running out of memory nothing is known of types.

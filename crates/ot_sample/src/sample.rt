@@ -3,7 +3,7 @@ ghost use Rattle.std.specs.Prelude.{◌≡◌, ◌≤◌, ◌++◌, ◌==◌, co
 ghost use Rattle.ot_sample.specs.Sample.{lines, number, opening, doubled, redex, equality, exported, sample};
 
 use itoa::Buffer;
-use ot_plain::Memory;
+use ot_logic::Memory;
 
 /// The operator `->`, and the types `A`, `A -> A` and `A -> (A -> A)`.
 const TYPES: [&[u8]; 2] = [

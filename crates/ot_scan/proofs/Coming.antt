@@ -5,8 +5,8 @@ use Rattle.std.specs.Prelude.{Option, Some, None, Err, IfSome}
 use Rattle.std.proofs.lemmas.List.{length-take-le, take_all}
 use Rattle.ot_lines.specs.Pieces.{IsOpenTo, pieces, text_of, is_skipped}
 use Rattle.ot_lines.proofs.Pieces.{before_first, pieces_open, first-ends, first-all}
-use Rattle.ot_plain.specs.Faults.{Fault, LineTooLong, ArticleTooLong}
-use Rattle.ot_plain.specs.Names.{Name}
+use Rattle.ot_logic.specs.Faults.{Fault, LineTooLong, ArticleTooLong}
+use Rattle.ot_logic.specs.Names.{Name}
 use Rattle.ot_scan.specs.Lines.{Scan, Broken, Next, limit_fault, with_piece, lines_after, lines_to_come}
 use Rattle.ot_scan.specs.Reading.{Reads, IsFirst, KeepsLines, AreToCome, Finds, ChecksLimits, taken}
 use Rattle.ot_scan.specs.declared.fault.ScanFault.{ScanFault}

@@ -4,7 +4,7 @@ use Rattle.std.proofs.Common.{[], ◌∷◌, ◌++◌, length, take, get_or, rev
 use Rattle.std.specs.Prelude.{Option, None}
 use Rattle.std.proofs.lemmas.Bool.Decides.{eqb_tells, leb_tells}
 use Rattle.std.proofs.lemmas.List.{reverse-append, length-reverse, length-take, get_or-take}
-use Rattle.ot_plain.specs.Lists.{IsMember}
+use Rattle.ot_logic.specs.Lists.{IsMember}
 use Rattle.ot_lines.specs.Pieces.{without_last, is_blank, trim_front, text_of}
 use Rattle.ot_lines.proofs.Trimming.{length-without_last_le}
 use Rattle.ot_scan.specs.Lines.{limit_fault, IsLong, IsLineText}

@@ -5,8 +5,8 @@ use Rattle.std.specs.Prelude.{Option, Some, None}
 use Rattle.std.proofs.lemmas.Bool.Decides.{leb_tells}
 use Rattle.ot_lines.specs.Pieces.{IsOpenTo, without_last}
 use Rattle.ot_lines.proofs.Trimming.{kept_last, length-without_last, length-without_last_le}
-use Rattle.ot_plain.specs.Faults.{Fault, LineTooLong, ArticleTooLong}
-use Rattle.ot_plain.specs.Names.{Name}
+use Rattle.ot_logic.specs.Faults.{Fault, LineTooLong, ArticleTooLong}
+use Rattle.ot_logic.specs.Names.{Name}
 use Rattle.ot_scan.specs.Lines.{limit_fault, NamesLimit, IsLong}
 
 -- ---- which place is the earlier

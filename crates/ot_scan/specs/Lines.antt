@@ -1,11 +1,11 @@
 -- The lines of an article.
 use Rattle.std.specs.Prelude.{◌≡◌, ◌<◌, ◌≤◌, ◌+◌, ℕ, ◌⊎◌, if◌then◌else◌, nat_lt, nat_le, List, [], ◌∷◌}
 use Rattle.std.specs.Prelude.{◌++◌, length, Option, Some, None, Result, Ok, Err, IfOk, IfSome, IfNone}
-use Rattle.ot_io.specs.Causes.{Rose}
+use Rattle.ot_io.specs.Causes.{CountRose}
 use Rattle.ot_lines.specs.Pieces.{pieces, without_last, text_of, is_skipped}
-use Rattle.ot_plain.specs.Lists.{IsMember}
-use Rattle.ot_plain.specs.Faults.{Fault, LineTooLong, ArticleTooLong}
-use Rattle.ot_plain.specs.Names.{Name}
+use Rattle.ot_logic.specs.Lists.{IsMember}
+use Rattle.ot_logic.specs.Faults.{Fault, LineTooLong, ArticleTooLong}
+use Rattle.ot_logic.specs.Names.{Name}
 use Rattle.ot_scan.specs.declared.lines.Line.{Line}
 use Rattle.ot_scan.specs.declared.fault.ScanFault.{ScanFault}
 use Rattle.ot_scan.specs.declared.fault.ScanFault.TheVariants as code
@@ -107,7 +107,7 @@ pub record Counts (result : Result (Option Line) ScanFault) (old new : Scan) : T
 
 -- a read fault comes only where the count of the source's failures rose
 abbrev pub HasReadCause : ScanFault → ℕ → ℕ → Type 0
-HasReadCause code.ReadFault before now = Rose before now
+HasReadCause code.ReadFault before now = CountRose before now
 HasReadCause (code.LineTooLong number) before now = Unit {0}
 HasReadCause (code.ArticleTooLong number) before now = Unit {0}
 

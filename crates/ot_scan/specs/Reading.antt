@@ -3,8 +3,8 @@ use Rattle.std.specs.Prelude.{◌≡◌, ◌<◌, ◌≤◌, ◌+◌, ◌-◌, �
 use Rattle.std.specs.Prelude.{drop, false, Option, Some, None, Result, Ok, Err, IfSome}
 use Rattle.std.specs.Io.KnownBytes.{Consumes, IsAtEnd}
 use Rattle.ot_lines.specs.Pieces.{IsOpenTo, EndsAt, text_of, is_skipped}
-use Rattle.ot_plain.specs.Faults.{Fault, LineTooLong, ArticleTooLong}
-use Rattle.ot_plain.specs.Names.{Name}
+use Rattle.ot_logic.specs.Faults.{Fault, LineTooLong, ArticleTooLong}
+use Rattle.ot_logic.specs.Names.{Name}
 use Rattle.ot_scan.specs.Lines.{Scan, Lines, Broken, Next, IsLineText, lines_to_come}
 use Rattle.ot_scan.specs.declared.fault.ScanFault.{ScanFault}
 use Rattle.ot_scan.specs.declared.fault.ScanFault.TheVariants as code

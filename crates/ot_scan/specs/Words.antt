@@ -6,11 +6,11 @@ use Rattle.std.specs.Char.{is_ascii_digit}
 use Rattle.std.specs.Str.{bytes_eq}
 use Rattle.std.specs.List.{list_all}
 use Rattle.std.specs.Str.Parse.{digits_value}
-use Rattle.ot_plain.specs.declared.command.Cmd.{Cmd}
-use Rattle.ot_plain.specs.Commands.{command_of}
-use Rattle.ot_plain.specs.Faults.{Fault, UnknownCommand, BadName, BadNumber, NumberRange}
-use Rattle.ot_plain.specs.Names.{Name}
-use Rattle.ot_plain.specs.Reading.{name_read}
+use Rattle.ot_logic.specs.declared.command.Cmd.{Cmd}
+use Rattle.ot_logic.specs.Commands.{command_of}
+use Rattle.ot_logic.specs.Faults.{Fault, UnknownCommand, BadName, BadNumber, NumberRange}
+use Rattle.ot_logic.specs.Names.{Name}
+use Rattle.ot_logic.specs.Reading.{name_read}
 use Rattle.ot_scan.specs.declared.words.Word.{Word}
 use Rattle.ot_scan.specs.declared.words.Word.TheVariants as code
 use Rattle.ot_scan.specs.declared.words.WordFault.{WordFault}

@@ -1,7 +1,7 @@
 ghost use Rattle.std.specs.Prelude.{◌≡◌, ◌<◌, ◌≤◌, ℕ, pos, neg_ℤ, length, MatchOption, IsSomeAnd, Some, None};
 ghost use Rattle.ot_scan.specs.Words.{word, answer, number, number_word, positive, IsCapped, ReadsDigits};
 
-use ot_plain::{Cmd, Name};
+use ot_logic::{Cmd, Name};
 
 /// What a line says.
 #[derive(Clone, Copy, PartialEq, Eq)]

@@ -4,13 +4,13 @@ use Rattle.std.specs.List.{All}
 use Rattle.std.proofs.Common.{◌≡◌, ℕ, suc, ◌+◌, Bool, true, false, cond, List}
 use Rattle.std.proofs.Common.{[], ◌∷◌, map, refl, sym, ap, subst, ◌∙◌, arith}
 use Rattle.std.proofs.lemmas.List.Elements.{All-head, All-tail}
-use Rattle.ot_plain.specs.Trees.{Ty, Tm, Con, App}
-use Rattle.ot_plain.specs.Naming.{names}
-use Rattle.ot_plain.specs.Hol.{fun_ty, bool_ty}
-use Rattle.ot_plain.proofs.TableLemmas.{Extends-trans}
+use Rattle.ot_logic.specs.Trees.{Ty, Tm, Con, App}
+use Rattle.ot_logic.specs.Naming.{names}
+use Rattle.ot_logic.specs.Hol.{fun_ty, bool_ty}
+use Rattle.ot_logic.proofs.TableLemmas.{Extends-trans}
 use Rattle.ot_records.specs.declared.word.RecordWord.{RecordWord}
-use Rattle.ot_plain.specs.Names.{Name}
-use Rattle.ot_plain.specs.Table.{Extends}
+use Rattle.ot_logic.specs.Names.{Name}
+use Rattle.ot_logic.specs.Table.{Extends}
 use Rattle.ot_records.specs.declared.word.RecordWord.TheVariants as words
 use Rattle.ot_nodes.specs.Items.{Item, IsType, HasType, HasTerm, name_at, type_at, term_at, first_items}
 use Rattle.ot_nodes.proofs.ShapeLemmas.{name-equals}

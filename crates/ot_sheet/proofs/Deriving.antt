@@ -5,14 +5,14 @@ use Rattle.std.proofs.Common.{◌≡◌, ℕ, Bool, true, false, cond, List, nat
 use Rattle.std.proofs.Common.{Option, None, Some, Ok, Err, refl, sym, ap, subst}
 use Rattle.std.proofs.Common.{◌∙◌}
 use Rattle.std.proofs.lemmas.List.Elements.{All-filter}
-use Rattle.ot_plain.specs.Names.{Name}
-use Rattle.ot_plain.specs.Naming.{names}
-use Rattle.ot_plain.specs.Trees.{Ty, Tm, Sequent}
-use Rattle.ot_plain.specs.Hol.{same_tm, is_in, minus, union, equation, as_equation}
-use Rattle.ot_plain.specs.Faults.{NotEquation, NotAlphaEqual}
-use Rattle.ot_plain.specs.Answers.{◌>>=◌, some_or}
-use Rattle.ot_plain.specs.Rules.{Rule, within_limit, sym_rule, trans_rule, proved_hyp}
-use Rattle.ot_plain.specs.Table.{Extends, IsInjective}
+use Rattle.ot_logic.specs.Names.{Name}
+use Rattle.ot_logic.specs.Naming.{names}
+use Rattle.ot_logic.specs.Trees.{Ty, Tm, Sequent}
+use Rattle.ot_logic.specs.Hol.{same_tm, is_in, minus, union, equation, as_equation}
+use Rattle.ot_logic.specs.Faults.{NotEquation, NotAlphaEqual}
+use Rattle.ot_logic.specs.Answers.{◌>>=◌, some_or}
+use Rattle.ot_logic.specs.Rules.{Rule, within_limit, sym_rule, trans_rule, proved_hyp}
+use Rattle.ot_logic.specs.Table.{Extends, IsInjective}
 use Rattle.ot_laws.proofs.Tests.{tells_names}
 use Rattle.ot_laws.proofs.Steps.{within_limit-ok}
 use Rattle.ot_nodes.specs.Items.{Item, HasTerm, IsTerm, type_at, term_at}
@@ -25,7 +25,7 @@ use Rattle.ot_rules.proofs.Numbers.{same-terms, in-numbers, minus-numbers, union
 use Rattle.ot_rules.proofs.Cases.{joined, has-joined}
 use Rattle.ot_rules.proofs.Staying.{terms-stay, still-terms}
 use Rattle.ot_sheet.specs.Derived.{IsStatementOf, outer_equation}
-use Rattle.ot_plain.proofs.Results.{bind-ok, same_Ok}
+use Rattle.ot_logic.proofs.Results.{bind-ok, same_Ok}
 
 module _ (ts : List Item) (one : IsInjective ts) where
   -- whether a conclusion is a hypothesis

@@ -8,11 +8,11 @@ use Rattle.std.proofs.Common.{true≢false, append-nil, append_assoc}
 use Rattle.std.proofs.lemmas.Bool.Decides.{nat_tests}
 use Rattle.std.proofs.lemmas.List.Elements.{All-head, All-tail, All-cons, All-nil, All-append}
 use Rattle.std.proofs.lemmas.Grind.{flat_map-append}
-use Rattle.ot_plain.specs.Names.{Name}
-use Rattle.ot_plain.specs.Naming.{names}
-use Rattle.ot_plain.specs.Trees.{Ty, Tm, TyOp}
-use Rattle.ot_plain.specs.Hol.{same_ty, same_tm}
-use Rattle.ot_plain.specs.Table.{IsInjective}
+use Rattle.ot_logic.specs.Names.{Name}
+use Rattle.ot_logic.specs.Naming.{names}
+use Rattle.ot_logic.specs.Trees.{Ty, Tm, TyOp}
+use Rattle.ot_logic.specs.Hol.{same_ty, same_tm}
+use Rattle.ot_logic.specs.Table.{IsInjective}
 use Rattle.ot_laws.proofs.Tests.{tells_names, same_ty-is}
 use Rattle.ot_nodes.specs.Items.{Item, HasType, HasTerm, name_at, type_at, types_at, term_at}
 use Rattle.ot_nodes.proofs.ItemLemmas.{type-one}
@@ -32,7 +32,7 @@ use Rattle.ot_sheet.specs.Sheets.{operand_at, Shows, Moves}
 use Rattle.ot_sheet.specs.declared.operand.Operand as code
 use Rattle.ot_sheet.specs.declared.sheet.Sheet.{Sheet}
 use Rattle.std.proofs.lemmas.List.{map-append, drop_all}
-use Rattle.ot_plain.proofs.Elements.{drop-item, position-bound}
+use Rattle.ot_logic.proofs.Elements.{drop-item, position-bound}
 
 all-push : {X : Type 0} (P : X → Type 0) (xs : List X) (y : X) → All P xs → P y → All P (xs ++ y ∷ [])
 all-push P xs y h g = All-append P xs (y ∷ []) h (All-cons P y [] g (All-nil P))

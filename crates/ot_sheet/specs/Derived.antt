@@ -1,9 +1,9 @@
 -- Sequents that were derived.
 use Rattle.std.specs.Prelude.{◌≡◌, nat_eq, cond, List, Result, Ok, Err}
-use Rattle.ot_plain.specs.Names.{Name}
-use Rattle.ot_plain.specs.Naming.{names}
-use Rattle.ot_plain.specs.Trees.{Tm, Sequent}
-use Rattle.ot_plain.specs.Hol.{equation}
+use Rattle.ot_logic.specs.Names.{Name}
+use Rattle.ot_logic.specs.Naming.{names}
+use Rattle.ot_logic.specs.Trees.{Tm, Sequent}
+use Rattle.ot_logic.specs.Hol.{equation}
 use Rattle.ot_nodes.specs.Items.{Item, type_at, term_at}
 use Rattle.ot_rules.specs.declared.shapes.Sides.{Sides}
 use Rattle.ot_rules.specs.Statements.{sequent_at, HasStatement}

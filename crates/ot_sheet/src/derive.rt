@@ -1,19 +1,19 @@
 //! The sequents of the words that stand for several records.
 ghost use Rattle.std.specs.Prelude.{◌≡◌, ◌&&◌, ◌++◌, not, filter, nat_eq, Ok, IfOk};
 ghost use Rattle.std.specs.List.{list_any};
-ghost use Rattle.ot_plain.specs.Names.{Name};
-ghost use Rattle.ot_plain.specs.Naming.{names};
-ghost use Rattle.ot_plain.specs.Trees.{Sequent};
-ghost use Rattle.ot_plain.specs.Hol.{is_in};
-ghost use Rattle.ot_plain.specs.Rules.{proved_hyp, sym_rule, trans_rule};
-ghost use Rattle.ot_plain.specs.Table.{Extends};
+ghost use Rattle.ot_logic.specs.Names.{Name};
+ghost use Rattle.ot_logic.specs.Naming.{names};
+ghost use Rattle.ot_logic.specs.Trees.{Sequent};
+ghost use Rattle.ot_logic.specs.Hol.{is_in};
+ghost use Rattle.ot_logic.specs.Rules.{proved_hyp, sym_rule, trans_rule};
+ghost use Rattle.ot_logic.specs.Table.{Extends};
 ghost use Rattle.ot_nodes.specs.Items.{IsTerm};
 ghost use Rattle.ot_rules.specs.Statements.{sequent_at, HasStatement};
 ghost use Rattle.ot_rules.specs.Shapes.{HasSides};
 ghost use Rattle.ot_sheet.specs.Derived.{Derives, IsStatementOf, outer_equation};
 
+use ot_logic::Memory;
 use ot_nodes::{Nodes, TermId};
-use ot_plain::Memory;
 use ot_rules::{Sides, Statement, StepFault, as_equation};
 use std::alloc::Global;
 

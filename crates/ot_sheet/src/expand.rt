@@ -1,6 +1,6 @@
 //! The records of the words that stand for several.
 ghost use Rattle.std.specs.Prelude.{[], ◌∷◌, IfOk};
-ghost use Rattle.ot_plain.specs.Table.{Extends};
+ghost use Rattle.ot_logic.specs.Table.{Extends};
 ghost use Rattle.ot_nodes.specs.Items.{HasType, HasTerm, IsTerm, type_at, term_at};
 ghost use Rattle.ot_rules.specs.Shapes.{HasSides};
 ghost use Rattle.ot_entries.specs.Expansions.{of_term, of_two, equals_at, sym_entries};
@@ -9,8 +9,8 @@ ghost use Rattle.ot_sheet.specs.Sheets.{Adds};
 
 use crate::operand::Operand;
 use crate::sheet::Sheet;
+use ot_logic::Memory;
 use ot_nodes::{NameId, Nodes, TermId, TypeId};
-use ot_plain::Memory;
 use ot_records::RecordWord;
 use ot_rules::Sides;
 

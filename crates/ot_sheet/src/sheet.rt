@@ -1,7 +1,7 @@
 //! The log so far: its text, and the types, terms and sequents that it has.
 ghost use Rattle.std.specs.Prelude.{◌≡◌, ◌<◌, ◌∷◌, [], ℕ, List, map, nat_eq, length, IfOk, OnOk, OnErr, Err};
 ghost use Rattle.std.specs.List.{All, flat_map, position_or_len};
-ghost use Rattle.ot_plain.specs.Trees.{TyOp};
+ghost use Rattle.ot_logic.specs.Trees.{TyOp};
 ghost use Rattle.ot_nodes.specs.Items.{HasName, HasType, HasTerm, name_at, type_at, types_at, term_at};
 ghost use Rattle.ot_records.specs.Tokens.{Number, Named, Word, spelling};
 ghost use Rattle.ot_text.specs.Pages.{Appended};
@@ -14,8 +14,8 @@ ghost use Rattle.ot_sheet.specs.Sheets.{operand_at, entry_at, HasOperand, Shows,
 
 use crate::operand::Operand;
 use indexmap::IndexSet;
+use ot_logic::{Memory, Name};
 use ot_nodes::{NameId, Nodes, TermId, TermNode, TypeId, TypeNode};
-use ot_plain::{Memory, Name};
 use ot_records::RecordWord;
 use ot_text::{Page, PrintFault};
 use std::alloc::Global;

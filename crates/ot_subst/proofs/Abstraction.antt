@@ -2,13 +2,14 @@
 use Rattle.std.proofs.Common.{◌≡◌, ℕ, suc, ◌<◌, ◌≤◌, false, List, [], ◌∷◌, length, slice_get}
 use Rattle.std.proofs.Common.{Some, refl, sym, ap, subst, ◌∙◌, inl, inr, arith}
 use Rattle.std.proofs.lemmas.Option.{get_or_from_slice_get, slice_get_within}
-use Rattle.ot_plain.specs.Lists.{IsMember}
-use Rattle.ot_plain.specs.Names.{Name}
-use Rattle.ot_plain.specs.Trees.{Ty, TyVar, Variable, Tm, Free, Named, NAbs}
-use Rattle.ot_plain.specs.Hol.{TypeMap, inst, inst_var, Renaming, type_at as type_for, image, nameless}
-use Rattle.ot_plain.specs.Hol.{named_type, IsFree, IsFreeIn, IsApart, is_shallow, depth_ty, depth_limit}
-use Rattle.ot_plain.specs.Naming.{numbers}
-use Rattle.ot_plain.specs.Bounds.{bound_named}
+use Rattle.ot_logic.specs.Lists.{IsMember}
+use Rattle.ot_logic.specs.Names.{Name}
+use Rattle.ot_logic.specs.Trees.{Ty, TyVar, Variable, Tm, Free, Named, NAbs}
+use Rattle.ot_logic.specs.Hol.{TypeMap, inst, inst_var, type_at as type_for}
+use Rattle.ot_logic.specs.Hol.{IsFree, is_shallow, depth_ty, depth_limit}
+use Rattle.ot_logic.specs.NamedTerms.{Renaming, image, nameless, named_type, IsFreeIn, IsApart}
+use Rattle.ot_logic.specs.Naming.{numbers}
+use Rattle.ot_logic.specs.Bounds.{bound_named}
 use Rattle.ot_laws.specs.Walk.{NamedMap, nameless_map}
 use Rattle.ot_laws.proofs.Tests.{tells_numbers, var_cases}
 use Rattle.ot_laws.proofs.Terms.{bind-agree}
@@ -29,7 +30,7 @@ use Rattle.ot_subst.proofs.Becoming.{AreTyped, deep-abs_type, deep-abs_body}
 use Rattle.ot_subst.proofs.Growing.{type_part-Grows, named_part-Grows}
 use Rattle.ot_subst.proofs.Growing.{renaming_of-Grows, becomes_at-Grows, AreReady-Grows, IsSetUp-Grows, below-twice}
 use Rattle.ot_subst.proofs.Walked.{IsMemory-Grows, kept_form, walked-kept, renamed_form, walked-renamed}
-use Rattle.ot_plain.proofs.Members.{IsMember-map_back, All-at_member}
+use Rattle.ot_logic.proofs.Members.{IsMember-map_back, All-at_member}
 
 -- the new binders have their types
 pub typed-renaming : (t : TermTable) (s : Substitution) (r : List (VarKey × VarKey))

@@ -1,12 +1,12 @@
 -- What the parts of a term become gives what the term becomes, its type, and whether it is within the nesting limit.
 use Rattle.std.specs.Prelude.{◌≢◌}
 use Rattle.std.proofs.Common.{◌≡◌, ℕ, ◌<◌, false, [], ◌∷◌, Some, refl, sym, ap, subst, ◌∙◌, inl, inr}
-use Rattle.ot_plain.specs.Lists.{IsMember}
-use Rattle.ot_plain.specs.Trees.{Ty, Variable, Abs, Named, NAbs}
-use Rattle.ot_plain.specs.Hol.{TypeMap, type_at, inst, inst_var, term_at, TermMap, Renaming}
-use Rattle.ot_plain.specs.Hol.{image, close, nameless, named_type, IsFree, IsFreeIn, IsTyped}
-use Rattle.ot_plain.specs.Hol.{HasType, is_shallow, type_in, depth_ty, depth_limit, IsWithin}
-use Rattle.ot_plain.specs.Naming.{numbers}
+use Rattle.ot_logic.specs.Lists.{IsMember}
+use Rattle.ot_logic.specs.Trees.{Ty, Variable, Abs, Named, NAbs}
+use Rattle.ot_logic.specs.Hol.{TypeMap, type_at, inst, inst_var, term_at, TermMap, close, IsFree}
+use Rattle.ot_logic.specs.Hol.{IsTyped, HasType, is_shallow, type_in, depth_ty, depth_limit, IsWithin}
+use Rattle.ot_logic.specs.NamedTerms.{Renaming, image, nameless, named_type, IsFreeIn}
+use Rattle.ot_logic.specs.Naming.{numbers}
 use Rattle.ot_laws.specs.Walk.{NamedMap, nameless_map, apply_by}
 use Rattle.ot_laws.proofs.Tests.{tells_numbers, var_cases}
 use Rattle.ot_laws.proofs.Terms.{bind-close_at}

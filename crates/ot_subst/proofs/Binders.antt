@@ -6,11 +6,11 @@ use Rattle.std.proofs.Common.{Ok, Err, true≢false, refl, sym, ap, subst, ◌�
 use Rattle.std.specs.List.{All, list_any}
 use Rattle.std.specs.Map.{lookup}
 use Rattle.std.proofs.lemmas.List.{take_more}
-use Rattle.ot_plain.specs.Lists.{IsMember}
-use Rattle.ot_plain.specs.Trees.{Variable, Free, Named}
-use Rattle.ot_plain.specs.Hol.{inst, inst_var, term_at as term_for_variable, TermMap}
-use Rattle.ot_plain.specs.Hol.{TypeMap, Renaming, image, nameless, IsFree, IsFreeIn}
-use Rattle.ot_plain.specs.Naming.{numbers}
+use Rattle.ot_logic.specs.Lists.{IsMember}
+use Rattle.ot_logic.specs.Trees.{Variable, Free, Named}
+use Rattle.ot_logic.specs.Hol.{inst, inst_var, term_at as term_for_variable, TermMap, TypeMap, IsFree}
+use Rattle.ot_logic.specs.NamedTerms.{Renaming, image, nameless, IsFreeIn}
+use Rattle.ot_logic.specs.Naming.{numbers}
 use Rattle.ot_laws.proofs.Tests.{tells_numbers, cases_of, var_cases}
 use Rattle.ot_laws.proofs.Named.{free-nameless, nameless-free}
 use Rattle.ot_laws.proofs.Apply.{term_at-cases}
@@ -27,8 +27,8 @@ use Rattle.ot_subst.specs.Walk.{AreReady}
 use Rattle.ot_subst.specs.Clash.{AreFrees, Coincides, MayStay, IsUnclashing, IsPutIn}
 use Rattle.ot_subst.proofs.Keys.{same_key-is, variable-injective}
 use Rattle.ot_subst.proofs.Variables.{image-other, put-none}
-use Rattle.ot_plain.proofs.Members.{IsMember-cases, IsMember-map, IsMember-map_back, All-at_member}
-use Rattle.ot_plain.proofs.Results.{none_from}
+use Rattle.ot_logic.proofs.Members.{IsMember-cases, IsMember-map, IsMember-map_back, All-at_member}
+use Rattle.ot_logic.proofs.Results.{none_from}
 
 -- ---- the loop over the free variables of a body
 module _ (t u : TermTable) (g : Grows t u) (s : Substitution) (types : All (λ p. p.1 < length t.types) s.types)

@@ -7,9 +7,9 @@ use Rattle.std.proofs.Common.{slice_get, Some, None, refl, sym, ap, subst, â—Œâˆ
 use Rattle.std.specs.Map.{lookup}
 use Rattle.std.proofs.lemmas.Option.{none-some, same_Some, slice_get_within, slice_get-get_or}
 use Rattle.std.proofs.lemmas.Option.{get_or_from_slice_get, slice_get_read, slice_get_past}
-use Rattle.ot_plain.specs.Lists.{IsMember}
-use Rattle.ot_plain.specs.Table.{Extends}
-use Rattle.ot_plain.proofs.InternedLemmas.{slice_get-push}
+use Rattle.ot_logic.specs.Lists.{IsMember}
+use Rattle.ot_logic.specs.Table.{Extends}
+use Rattle.ot_logic.proofs.InternedLemmas.{slice_get-push}
 use Rattle.ot_subst.specs.Memory.{keys}
 use Rattle.ot_subst.specs.Places.{ArePlaced}
 use Rattle.ot_subst.proofs.Taken.{absent-member}

@@ -3,12 +3,12 @@ use Rattle.std.specs.Prelude.{max, IfOk, OnErr}
 use Rattle.std.proofs.Common.{◌≡◌, ℕ, suc, ◌+◌, ◌<◌, ◌≤◌, List, [], ◌∷◌, ◌++◌, map, length}
 use Rattle.std.proofs.Common.{refl, sym, subst, inl, inr, Result, Ok, Err, arith, length-append}
 use Rattle.std.proofs.lemmas.List.{length-map}
-use Rattle.ot_plain.specs.Lists.{IsMember, AreDistinct, IsPart}
-use Rattle.ot_plain.specs.Trees.{TyVar, Named, NConst, NApp, NAbs}
-use Rattle.ot_plain.specs.Hol.{parts, size, HasNoClash}
-use Rattle.ot_plain.specs.Naming.{numbers}
-use Rattle.ot_plain.specs.Table.{Extends, IsInjective}
-use Rattle.ot_plain.proofs.TableLemmas.{get_or-IsInjective}
+use Rattle.ot_logic.specs.Lists.{IsMember, AreDistinct, IsPart}
+use Rattle.ot_logic.specs.Trees.{TyVar, Named, NConst, NApp, NAbs}
+use Rattle.ot_logic.specs.NamedTerms.{parts, size, HasNoClash}
+use Rattle.ot_logic.specs.Naming.{numbers}
+use Rattle.ot_logic.specs.Table.{Extends, IsInjective}
+use Rattle.ot_logic.proofs.TableLemmas.{get_or-IsInjective}
 use Rattle.ot_laws.proofs.Tests.{tells_numbers}
 use Rattle.ot_laws.proofs.Sets.{distinct-append}
 use Rattle.ot_laws.proofs.Size.{part-self, remembered-size}
@@ -20,7 +20,7 @@ use Rattle.ot_subst.specs.Substitution.{Substitution, type_part, variable_part}
 use Rattle.ot_subst.specs.Walk.{AreReady}
 use Rattle.ot_subst.specs.Memory.{keys, IsPartBelow, IsWalked, CountsParts, IsCounted}
 use Rattle.ot_subst.proofs.Walked.{no_clash-Grows}
-use Rattle.ot_plain.proofs.Members.{IsMember-cases, IsMember-left, IsMember-map, IsMember-map_back, IsMember-right}
+use Rattle.ot_logic.proofs.Members.{IsMember-cases, IsMember-left, IsMember-map, IsMember-map_back, IsMember-right}
 
 -- the steps of a walk that gave a result
 pub counts-walked : {t u : TermTable} {s : Substitution} {r : List (VarKey × VarKey)} {m0 m1 : List (ℕ × ℕ)}

@@ -6,16 +6,17 @@ use Rattle.std.specs.List.{All}
 use Rattle.std.proofs.lemmas.List.{take_more, map-append}
 use Rattle.std.proofs.lemmas.Option.{get_or_from_slice_get, slice_get_within}
 use Rattle.std.proofs.lemmas.List.Elements.{All-append}
-use Rattle.ot_plain.specs.Lists.{IsMember}
-use Rattle.ot_plain.specs.Trees.{Variable, Tm, Named}
-use Rattle.ot_plain.specs.Hol.{nameless, IsFree}
-use Rattle.ot_plain.specs.Naming.{numbers}
+use Rattle.ot_logic.specs.Lists.{IsMember}
+use Rattle.ot_logic.specs.Trees.{Variable, Tm, Named}
+use Rattle.ot_logic.specs.Hol.{IsFree}
+use Rattle.ot_logic.specs.NamedTerms.{nameless}
+use Rattle.ot_logic.specs.Naming.{numbers}
 use Rattle.ot_term.specs.Term.{TermTable}
 use Rattle.ot_term.specs.TermTable.{term_at, variable_of}
 use Rattle.ot_term.specs.declared.term.VarKey.{VarKey}
 use Rattle.ot_subst.specs.Substitution.{Substitution, named_part}
 use Rattle.ot_subst.specs.Clash.{AreFrees, CollectsFrees}
-use Rattle.ot_plain.proofs.Members.{IsMember-cases, IsMember-left, IsMember-map, IsMember-map_back, IsMember-right}
+use Rattle.ot_logic.proofs.Members.{IsMember-cases, IsMember-left, IsMember-map, IsMember-map_back, IsMember-right}
 
 module _ (t : TermTable) (ps : List (VarKey × ℕ)) (frees : List VarKey) (before : CollectsFrees t ps frees)
     (p : VarKey × ℕ) (more : List VarKey) (inside : All (λ y. y.ty < length t.types) more)

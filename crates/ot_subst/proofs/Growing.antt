@@ -5,13 +5,14 @@ use Rattle.std.proofs.Common.{◌≡◌, ℕ, ◌<◌, ◌≤◌, inl, inr, List
 use Rattle.std.proofs.Common.{map, length, refl, sym, ap, subst, ◌∙◌, arith}
 use Rattle.std.specs.List.{All}
 use Rattle.std.proofs.lemmas.List.Elements.{All-head, All-tail}
-use Rattle.ot_plain.proofs.Members.{All-at_member}
-use Rattle.ot_plain.specs.Lists.{IsMember}
-use Rattle.ot_plain.specs.Names.{Name}
-use Rattle.ot_plain.specs.Trees.{Variable, Tm, Named}
-use Rattle.ot_plain.specs.Hol.{inst, nameless, IsTyped, IsFree}
-use Rattle.ot_plain.specs.Naming.{numbers}
-use Rattle.ot_plain.proofs.TableLemmas.{Extends-refl, Extends-trans}
+use Rattle.ot_logic.proofs.Members.{All-at_member}
+use Rattle.ot_logic.specs.Lists.{IsMember}
+use Rattle.ot_logic.specs.Names.{Name}
+use Rattle.ot_logic.specs.Trees.{Variable, Tm, Named}
+use Rattle.ot_logic.specs.Hol.{inst, IsTyped, IsFree}
+use Rattle.ot_logic.specs.NamedTerms.{nameless}
+use Rattle.ot_logic.specs.Naming.{numbers}
+use Rattle.ot_logic.proofs.TableLemmas.{Extends-refl, Extends-trans}
 use Rattle.ot_laws.specs.Walk.{nameless_map}
 use Rattle.ot_type.proofs.TypeTableLemmas.{type_at-Extends}
 use Rattle.ot_type.proofs.InstLemmas.{images-Extends}

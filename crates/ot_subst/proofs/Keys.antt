@@ -3,10 +3,10 @@ use Rattle.std.specs.Prelude.{◌==◌}
 use Rattle.std.specs.Bool.{Decides}
 use Rattle.std.proofs.Common.{◌≡◌, ℕ, ◌<◌, List, length, ap}
 use Rattle.std.proofs.lemmas.Bool.Decides.{Decides-and, Decides-like, Decides-eqb, same_from_decides}
-use Rattle.ot_plain.specs.Trees.{Ty, TyVar, Variable}
-use Rattle.ot_plain.specs.Hol.{same_var}
-use Rattle.ot_plain.specs.Naming.{numbers}
-use Rattle.ot_plain.proofs.TableLemmas.{get_or-IsInjective}
+use Rattle.ot_logic.specs.Trees.{Ty, TyVar, Variable}
+use Rattle.ot_logic.specs.Hol.{same_var}
+use Rattle.ot_logic.specs.Naming.{numbers}
+use Rattle.ot_logic.proofs.TableLemmas.{get_or-IsInjective}
 use Rattle.ot_type.specs.TypeTable.{IsTypeTable}
 use Rattle.ot_term.specs.TermTable.{variable_of}
 use Rattle.ot_term.specs.declared.term.VarKey.{VarKey}

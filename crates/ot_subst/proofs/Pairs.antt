@@ -7,9 +7,10 @@ use Rattle.std.specs.Map.{lookup}
 use Rattle.std.proofs.lemmas.List.{append_assoc}
 use Rattle.std.proofs.lemmas.List.Elements.{All-push, All-tail}
 use Rattle.std.proofs.lemmas.Option.{none-some}
-use Rattle.ot_plain.specs.Trees.{Variable, Tm}
-use Rattle.ot_plain.specs.Hol.{TermMap, HasType, IsTyped, nameless, named_type}
-use Rattle.ot_plain.specs.Naming.{numbers}
+use Rattle.ot_logic.specs.Trees.{Variable, Tm}
+use Rattle.ot_logic.specs.Hol.{TermMap, HasType, IsTyped}
+use Rattle.ot_logic.specs.NamedTerms.{nameless, named_type}
+use Rattle.ot_logic.specs.Naming.{numbers}
 use Rattle.ot_laws.proofs.Tests.{tells_numbers}
 use Rattle.ot_laws.proofs.Typing.{type-nameless}
 use Rattle.ot_type.specs.TypeTable.{type_at}
@@ -19,7 +20,7 @@ use Rattle.indexmap.specs.IndexMap.{IndexMap, insert_entry}
 use Rattle.indexmap.proofs.CallerLemmas.{insert_entry-new}
 use Rattle.ot_term.specs.declared.term.VarKey.{VarKey}
 use Rattle.ot_subst.specs.Substitution.{Substitution, same_key, term_for, with_pair, variable_part, IsSubstOf}
-use Rattle.ot_plain.proofs.Results.{none_from}
+use Rattle.ot_logic.proofs.Results.{none_from}
 
 -- ---- two lists of pairs, of which the first is looked through first
 pub lookup-first : {K X : Type 0} (p : K → Bool) (xs ys : List (K × X)) (x : X) → lookup p xs ≡ Some x

@@ -3,10 +3,11 @@ use Rattle.std.proofs.Common.{◌≡◌, ℕ, suc, ◌+◌, ◌<◌, ◌≤◌, 
 use Rattle.std.proofs.Common.{Some, None, refl, sym, ap, subst, ◌∙◌, inl, inr, arith}
 use Rattle.std.proofs.lemmas.Option.{get_or_from_slice_get, slice_get-get_or}
 use Rattle.std.proofs.lemmas.List.Elements.{All-cons, All-nil}
-use Rattle.ot_plain.specs.Lists.{IsMember, AreDistinct}
-use Rattle.ot_plain.specs.Trees.{Ty, TyVar, Named, NVar, NConst, NApp, NAbs}
-use Rattle.ot_plain.specs.Hol.{nameless, named_type, fun_ty, parts, size, HasNoClash}
-use Rattle.ot_plain.specs.Naming.{numbers}
+use Rattle.ot_logic.specs.Lists.{IsMember, AreDistinct}
+use Rattle.ot_logic.specs.Trees.{Ty, TyVar, Named, NVar, NConst, NApp, NAbs}
+use Rattle.ot_logic.specs.Hol.{fun_ty}
+use Rattle.ot_logic.specs.NamedTerms.{nameless, named_type, parts, size, HasNoClash}
+use Rattle.ot_logic.specs.Naming.{numbers}
 use Rattle.ot_laws.proofs.Tests.{tells_numbers}
 use Rattle.ot_laws.proofs.Size.{part-self}
 use Rattle.ot_laws.proofs.Opened.{within-nameless, beta-subst}
@@ -21,7 +22,7 @@ use Rattle.ot_subst.specs.Memory.{CountsParts}
 use Rattle.ot_subst.specs.Beta.{contracted, HasNoBetaClash}
 use Rattle.ot_subst.proofs.Counting.{numbers-size}
 use Rattle.ot_subst.proofs.Unchanged.{open-self}
-use Rattle.ot_plain.proofs.Members.{IsMember-left}
+use Rattle.ot_logic.proofs.Members.{IsMember-left}
 
 -- a substitution of one pair
 pub one_pair : (s start : Substitution) (types : List (ℕ × ℕ)) (v : VarKey) (x : ℕ) → s ≡ with_pair start v x

@@ -3,10 +3,10 @@ use Rattle.std.specs.Prelude.{nat_le, ◌&&◌}
 use Rattle.std.proofs.Common.{◌≡◌, ℕ, suc, ◌<◌, ◌≤◌, Bool, true, false, List, [], ◌∷◌}
 use Rattle.std.proofs.Common.{Some, refl, ap, ◌∙◌, ◌⊎◌, inl, inr, length, ◌++◌, arith}
 use Rattle.std.proofs.lemmas.Bool.Decides.{nat_tests}
-use Rattle.ot_plain.specs.Trees.{Ty, Variable, Tm, Free, Con, Bound, App, Abs}
-use Rattle.ot_plain.specs.Hol.{depth_limit, depth_ty, depth_tm, fun_ty, type_in, close}
-use Rattle.ot_plain.specs.Hol.{has_shallow_types, is_shallow_type, is_shallow, IsWithin, close_at}
-use Rattle.ot_plain.specs.Naming.{numbers}
+use Rattle.ot_logic.specs.Trees.{Ty, Variable, Tm, Free, Con, Bound, App, Abs}
+use Rattle.ot_logic.specs.Hol.{depth_limit, depth_ty, depth_tm, fun_ty, type_in, close}
+use Rattle.ot_logic.specs.Hol.{has_shallow_types, is_shallow_type, is_shallow, IsWithin, close_at}
+use Rattle.ot_logic.specs.Naming.{numbers}
 use Rattle.ot_laws.proofs.Tests.{tells_numbers, var_cases}
 use Rattle.ot_laws.proofs.Typing.{type-closed, depth-closed}
 

@@ -4,13 +4,14 @@ use Rattle.std.proofs.Common.{◌≡◌, ℕ, ◌<◌, ◌≤◌, Bool, true, fa
 use Rattle.std.proofs.Common.{None, Result, Ok, Err, refl, sym, ap, ◌∙◌, inl, inr, eqb-true, eq-eqb, arith}
 use Rattle.std.specs.Map.{lookup}
 use Rattle.std.proofs.lemmas.Option.{get_or_from_slice_get, none-some, same_Some}
-use Rattle.ot_plain.specs.Lists.{IsMember}
-use Rattle.ot_plain.specs.Names.{Name}
-use Rattle.ot_plain.specs.Table.{Extends}
-use Rattle.ot_plain.specs.Trees.{Ty, TyVar, Named, NApp, NConst}
-use Rattle.ot_plain.specs.Hol.{inst, fun_ty, named_type, nameless}
-use Rattle.ot_plain.specs.Naming.{numbers, IsNameTable}
-use Rattle.ot_plain.specs.Bounds.{bound_named}
+use Rattle.ot_logic.specs.Lists.{IsMember}
+use Rattle.ot_logic.specs.Names.{Name}
+use Rattle.ot_logic.specs.Table.{Extends}
+use Rattle.ot_logic.specs.Trees.{Ty, TyVar, Named, NApp, NConst}
+use Rattle.ot_logic.specs.Hol.{inst, fun_ty}
+use Rattle.ot_logic.specs.NamedTerms.{named_type, nameless}
+use Rattle.ot_logic.specs.Naming.{numbers, IsNameTable}
+use Rattle.ot_logic.specs.Bounds.{bound_named}
 use Rattle.ot_laws.proofs.Tests.{tells_numbers}
 use Rattle.ot_laws.proofs.Typing.{applied-some}
 use Rattle.ot_term.specs.Term.{TermTable}

@@ -1,10 +1,10 @@
 -- What stays as it is: a term with no free variable, where no type changes, and a body with the bound variable put in
 -- again.
 use Rattle.std.proofs.Common.{◌≡◌, ◌<◌, ℕ, suc, [], List, length, refl, sym, ap, ◌∙◌, inl, inr, eq-eqb, arith}
-use Rattle.ot_plain.specs.Trees.{Ty, Variable, Tm, Free, Con, Bound, App, Abs}
-use Rattle.ot_plain.specs.Hol.{IsClosed, IsWithin, close_at, open_at, bind}
-use Rattle.ot_plain.specs.Hol.{inst, inst_by, nameless, type_at as type_for}
-use Rattle.ot_plain.specs.Naming.{numbers}
+use Rattle.ot_logic.specs.Trees.{Ty, Variable, Tm, Free, Con, Bound, App, Abs}
+use Rattle.ot_logic.specs.Hol.{IsClosed, IsWithin, close_at, open_at, bind, inst, inst_by, type_at as type_for}
+use Rattle.ot_logic.specs.NamedTerms.{nameless}
+use Rattle.ot_logic.specs.Naming.{numbers}
 use Rattle.ot_laws.proofs.Tests.{tells_numbers, var_cases}
 use Rattle.ot_laws.proofs.Opened.{place_below}
 use Rattle.ot_type.specs.TypeTable.{images}

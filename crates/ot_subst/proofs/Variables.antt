@@ -6,11 +6,12 @@ use Rattle.std.specs.List.{All}
 use Rattle.std.specs.Map.{lookup}
 use Rattle.std.proofs.lemmas.List.Elements.{All-head, All-tail}
 use Rattle.std.proofs.lemmas.Option.{get_or_from_slice_get, slice_get_within, slice_get-get_or, none-some, same_Some}
-use Rattle.ot_plain.specs.Lists.{IsMember}
-use Rattle.ot_plain.specs.Trees.{TyVar, Variable, Tm, Free, Named, NVar, NConst}
-use Rattle.ot_plain.specs.Hol.{inst, inst_var, term_at as term_for_variable, TermMap}
-use Rattle.ot_plain.specs.Hol.{image, nameless, depth_ty, depth_limit, is_shallow}
-use Rattle.ot_plain.specs.Naming.{numbers}
+use Rattle.ot_logic.specs.Lists.{IsMember}
+use Rattle.ot_logic.specs.Trees.{TyVar, Variable, Tm, Free, Named, NVar, NConst}
+use Rattle.ot_logic.specs.Hol.{inst, inst_var, term_at as term_for_variable}
+use Rattle.ot_logic.specs.Hol.{TermMap, depth_ty, depth_limit, is_shallow}
+use Rattle.ot_logic.specs.NamedTerms.{image, nameless}
+use Rattle.ot_logic.specs.Naming.{numbers}
 use Rattle.ot_laws.specs.Walk.{nameless_map}
 use Rattle.ot_laws.proofs.Tests.{tells_numbers}
 use Rattle.ot_laws.proofs.Apply.{term_at-kept}
@@ -24,7 +25,7 @@ use Rattle.ot_subst.specs.Walk.{becomes, HasForm, IsRenamed, bound_of, AreReady}
 use Rattle.ot_subst.proofs.Keys.{same_var-key}
 use Rattle.ot_subst.proofs.Shallow.{deep-free}
 use Rattle.ot_subst.proofs.Growing.{named_part-Grows, IsSubstOf-Grows}
-use Rattle.ot_plain.proofs.Members.{IsMember-map_back, All-at_member}
+use Rattle.ot_logic.proofs.Members.{IsMember-map_back, All-at_member}
 
 -- a term that was made
 pub made : (u : TermTable) (id : ℕ) (t : Named ℕ) (x : Tm ℕ) → slice_get u.terms id ≡ Some t → nameless numbers t ≡ x

@@ -2,10 +2,11 @@
 use Rattle.std.specs.Prelude.{max}
 use Rattle.std.proofs.Common.{◌≡◌, ℕ, suc, ◌+◌, ◌<◌, ◌≤◌, List, [], ◌∷◌, ◌++◌, length, slice_get}
 use Rattle.std.proofs.Common.{Some, sym, ap, subst, ◌∙◌, ◌⊎◌, inl, inr, arith, length-append}
-use Rattle.ot_plain.specs.Lists.{IsMember, AreDistinct}
-use Rattle.ot_plain.specs.Trees.{Variable, App, Named, NApp, NAbs}
-use Rattle.ot_plain.specs.Hol.{inst, inst_var, image, nameless, parts, HasNoClash, IsFree, IsFreeIn}
-use Rattle.ot_plain.specs.Naming.{numbers}
+use Rattle.ot_logic.specs.Lists.{IsMember, AreDistinct}
+use Rattle.ot_logic.specs.Trees.{Variable, App, Named, NApp, NAbs}
+use Rattle.ot_logic.specs.Hol.{inst, inst_var, IsFree}
+use Rattle.ot_logic.specs.NamedTerms.{image, nameless, parts, HasNoClash, IsFreeIn}
+use Rattle.ot_logic.specs.Naming.{numbers}
 use Rattle.ot_laws.specs.Walk.{nameless_map}
 use Rattle.ot_laws.proofs.Tests.{tells_numbers}
 use Rattle.ot_laws.proofs.Size.{part-self}
@@ -22,7 +23,7 @@ use Rattle.ot_subst.specs.Memory.{keys, IsEntry, IsMemory, IsPartBelow, IsWalked
 use Rattle.ot_subst.proofs.Variables.{made}
 use Rattle.ot_subst.proofs.Growing.{renaming_of-Grows, AreReady-Grows}
 use Rattle.ot_subst.proofs.Growing.{type_part-Grows, named_part-Grows, becomes_at-Grows, HasForm-Grows}
-use Rattle.ot_plain.proofs.Members.{IsMember-cases, IsMember-left, IsMember-map, IsMember-map_back, IsMember-right}
+use Rattle.ot_logic.proofs.Members.{IsMember-cases, IsMember-left, IsMember-map, IsMember-map_back, IsMember-right}
 
 -- ---- what is remembered, as a table grows
 module _ (t u : TermTable) (g : Grows t u) (s : Substitution) (inside : IsSubstOf t s) where

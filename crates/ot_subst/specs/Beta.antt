@@ -1,8 +1,9 @@
 -- Beta: the body of an abstraction with the argument put in.
 use Rattle.std.specs.Prelude.{ℕ, [], ◌∷◌, Option, Some, None}
-use Rattle.ot_plain.specs.Trees.{Tm, App, Abs, Named, NApp, NAbs}
-use Rattle.ot_plain.specs.Hol.{opened, nameless, HasNoClash}
-use Rattle.ot_plain.specs.Naming.{numbers}
+use Rattle.ot_logic.specs.Trees.{Tm, App, Abs, Named, NApp, NAbs}
+use Rattle.ot_logic.specs.Hol.{opened}
+use Rattle.ot_logic.specs.NamedTerms.{nameless, HasNoClash}
+use Rattle.ot_logic.specs.Naming.{numbers}
 
 -- what beta gives; None where the term is no abstraction applied to a term
 abbrev pub contracted : Tm ℕ → Option (Tm ℕ)

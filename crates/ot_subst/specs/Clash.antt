@@ -2,10 +2,11 @@
 use Rattle.std.specs.Prelude.{◌≡◌, ◌≢◌, ℕ, ◌<◌, List, Option, Vec, IfSome, map, length}
 use Rattle.std.specs.List.{All}
 use Rattle.std.specs.Global.{Global}
-use Rattle.ot_plain.specs.Lists.{IsMember}
-use Rattle.ot_plain.specs.Trees.{Variable, Tm, Free}
-use Rattle.ot_plain.specs.Hol.{inst_var, image, nameless, IsFree, IsFreeIn, IsApart}
-use Rattle.ot_plain.specs.Naming.{numbers}
+use Rattle.ot_logic.specs.Lists.{IsMember}
+use Rattle.ot_logic.specs.Trees.{Variable, Tm, Free}
+use Rattle.ot_logic.specs.Hol.{inst_var, IsFree}
+use Rattle.ot_logic.specs.NamedTerms.{image, nameless, IsFreeIn, IsApart}
+use Rattle.ot_logic.specs.Naming.{numbers}
 use Rattle.ot_term.specs.Term.{TermTable}
 use Rattle.ot_term.specs.TermTable.{term_at, variable_of}
 use Rattle.ot_term.specs.declared.term.VarKey.{VarKey}

@@ -1,9 +1,9 @@
 -- What a walk remembers: results by the numbers of terms, which hold while the substitution in force is the same.
 use Rattle.std.specs.Prelude.{◌≡◌, ℕ, suc, ◌+◌, ◌<◌, ◌≤◌, ◌⊎◌, max, List, [], map, length}
-use Rattle.ot_plain.specs.Lists.{IsMember, AreDistinct}
-use Rattle.ot_plain.specs.Trees.{Named}
-use Rattle.ot_plain.specs.Hol.{nameless, parts, HasNoClash}
-use Rattle.ot_plain.specs.Naming.{numbers}
+use Rattle.ot_logic.specs.Lists.{IsMember, AreDistinct}
+use Rattle.ot_logic.specs.Trees.{Named}
+use Rattle.ot_logic.specs.NamedTerms.{nameless, parts, HasNoClash}
+use Rattle.ot_logic.specs.Naming.{numbers}
 use Rattle.ot_term.specs.Term.{TermTable}
 use Rattle.ot_term.specs.TermTable.{term_at}
 use Rattle.ot_term.specs.declared.term.VarKey.{VarKey}

@@ -1,8 +1,8 @@
 -- The binders that were renamed on the way to a term.
 use Rattle.std.specs.Prelude.{◌≡◌, ℕ, List, [], ◌∷◌, ◌⊎◌, map}
-use Rattle.ot_plain.specs.Trees.{Ty}
-use Rattle.ot_plain.specs.Hol.{Renaming}
-use Rattle.ot_plain.specs.Naming.{numbers}
+use Rattle.ot_logic.specs.Trees.{Ty}
+use Rattle.ot_logic.specs.NamedTerms.{Renaming}
+use Rattle.ot_logic.specs.Naming.{numbers}
 use Rattle.ot_term.specs.TermTable.{variable_of}
 use Rattle.ot_term.specs.declared.term.VarKey.{VarKey}
 use Rattle.ot_subst.specs.declared.renamed.Renamed.{Renamed}

@@ -4,9 +4,9 @@ use Rattle.std.specs.Prelude.{◌++◌, map, length, is_some, if◌then◌else�
 use Rattle.std.specs.List.{All}
 use Rattle.std.specs.Map.{lookup}
 use Rattle.std.specs.Coded.{Coded, coded_list, coded×, coded_ℕ, code_by}
-use Rattle.ot_plain.specs.Trees.{Tm}
-use Rattle.ot_plain.specs.Hol.{TypeMap, TermMap, IsTyped, subst_tm}
-use Rattle.ot_plain.specs.Naming.{numbers}
+use Rattle.ot_logic.specs.Trees.{Tm}
+use Rattle.ot_logic.specs.Hol.{TypeMap, TermMap, IsTyped, subst_tm}
+use Rattle.ot_logic.specs.Naming.{numbers}
 use Rattle.ot_laws.specs.Walk.{NamedMap, nameless_map}
 use Rattle.ot_type.specs.TypeTable.{images}
 use Rattle.ot_term.specs.Term.{TermTable}

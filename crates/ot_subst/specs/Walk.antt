@@ -1,12 +1,13 @@
 -- A walk that puts a substitution into a term, node by node, and renames binders on the way.
 use Rattle.std.specs.Prelude.{◌≡◌, ℕ, suc, ◌<◌, ◌≤◌, List, [], ◌∷◌, length, max}
-use Rattle.ot_plain.specs.Lists.{IsMember}
-use Rattle.ot_plain.specs.Names.{Name}
-use Rattle.ot_plain.specs.Trees.{Tm}
-use Rattle.ot_plain.specs.Hol.{TypeMap, type_at as type_for, inst, bind, Renaming, image, nameless}
-use Rattle.ot_plain.specs.Naming.{numbers, IsNameTable}
-use Rattle.ot_plain.specs.Bounds.{names_in, names_in_terms}
-use Rattle.ot_plain.specs.Table.{Extends}
+use Rattle.ot_logic.specs.Lists.{IsMember}
+use Rattle.ot_logic.specs.Names.{Name}
+use Rattle.ot_logic.specs.Trees.{Tm}
+use Rattle.ot_logic.specs.Hol.{TypeMap, type_at as type_for, inst, bind}
+use Rattle.ot_logic.specs.NamedTerms.{Renaming, image, nameless}
+use Rattle.ot_logic.specs.Naming.{numbers, IsNameTable}
+use Rattle.ot_logic.specs.Bounds.{names_in, names_in_terms}
+use Rattle.ot_logic.specs.Table.{Extends}
 use Rattle.ot_laws.specs.Walk.{NamedMap, nameless_map}
 use Rattle.ot_type.specs.TypeTable.{type_at}
 use Rattle.ot_term.specs.Term.{TermTable}

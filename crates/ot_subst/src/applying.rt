@@ -1,8 +1,9 @@
 //! Substitution and beta.
 ghost use Rattle.std.specs.Prelude.{◌≡◌, ◌≢◌, ◌<◌, ◌≤◌, ◌+◌, [], suc, Some, None, Err, IfOk, length, false};
-ghost use Rattle.ot_plain.specs.Trees.{Tm};
-ghost use Rattle.ot_plain.specs.Hol.{is_shallow, nameless, size, HasNoClash};
-ghost use Rattle.ot_plain.specs.Naming.{numbers, IsNameTable};
+ghost use Rattle.ot_logic.specs.Trees.{Tm};
+ghost use Rattle.ot_logic.specs.Hol.{is_shallow};
+ghost use Rattle.ot_logic.specs.NamedTerms.{nameless, size, HasNoClash};
+ghost use Rattle.ot_logic.specs.Naming.{numbers, IsNameTable};
 ghost use Rattle.ot_term.specs.TermTable.{term_at};
 ghost use Rattle.ot_subst.specs.Substitution.{type_part, variable_part, substituted, IsSubstOf};
 ghost use Rattle.ot_subst.specs.Walk.{HasForm, NamesBelow, IsLater};
@@ -15,13 +16,13 @@ use crate::renamed::Renamed;
 use crate::results::Results;
 use crate::subst::Subst;
 use crate::walk::walk;
-use ot_plain::Names;
+use ot_logic::Names;
 use ot_term::{Nodes, Steps, TermId, TermNode};
 use ot_type::{TableFault, TypeSubst};
 use std::alloc::Global;
 
 /// The term with the substitution put in.
-fn put_in<N: Nodes<L>, L>(
+fn substitute<N: Nodes<L>, L>(
     alloc: Global,
     terms: &mut N,
     names: &mut Names,
@@ -50,11 +51,11 @@ fn put_in<N: Nodes<L>, L>(
     if s.types().is_empty() && terms.is_closed(t) {
         return Ok(t);
     }
-    put_in_open(alloc, terms, names, results, s, t, steps)
+    substitute_open(alloc, terms, names, results, s, t, steps)
 }
 
 /// The same, node by node.
-fn put_in_open<N: Nodes<L>, L>(
+fn substitute_open<N: Nodes<L>, L>(
     alloc: Global,
     terms: &mut N,
     names: &mut Names,
@@ -125,7 +126,7 @@ pub fn apply<N: Nodes<L>, L>(
     ensures name_table { IsNameTable names.new }
     ensures fits { IsSubstOf (N.table terms.new) s.now }
 {
-    Ok(put_in(alloc, terms, names, results, s, t, steps)?)
+    Ok(substitute(alloc, terms, names, results, s, t, steps)?)
 }
 
 /// The body of an abstraction with the argument put in for the variable.
@@ -173,5 +174,5 @@ pub fn beta<N: Nodes<L>, L>(
     }
     let mut s = Subst::new(alloc, TypeSubst::new(alloc));
     s.insert(v, x)?;
-    Ok(put_in(alloc, terms, names, results, &s, body, steps)?)
+    Ok(substitute(alloc, terms, names, results, &s, body, steps)?)
 }

@@ -1,9 +1,9 @@
 //! When a binder has to be renamed.
 ghost use Rattle.std.specs.Prelude.{◌≡◌, ◌<◌, ◌↔◌, [], length, IfOk, OnOk, IsTrue, MatchBool, Decides};
 ghost use Rattle.std.specs.List.{All};
-ghost use Rattle.ot_plain.specs.Lists.{IsMember};
-ghost use Rattle.ot_plain.specs.Hol.{inst_var};
-ghost use Rattle.ot_plain.specs.Naming.{numbers};
+ghost use Rattle.ot_logic.specs.Lists.{IsMember};
+ghost use Rattle.ot_logic.specs.Hol.{inst_var};
+ghost use Rattle.ot_logic.specs.Naming.{numbers};
 ghost use Rattle.ot_term.specs.TermTable.{variable_of, IsGrownTo, IsTermTable};
 ghost use Rattle.ot_subst.specs.Substitution.{type_part, IsSubstOf};
 ghost use Rattle.ot_subst.specs.Renamed.{pairs_of};
@@ -13,7 +13,7 @@ ghost use Rattle.ot_subst.specs.Clash.{AreFrees, CollectsFrees, AreKnown, IsPutI
 use crate::renamed::{Renamed, meets};
 use crate::subst::Subst;
 use indexmap::IndexMap;
-use ot_plain::Memory;
+use ot_logic::Memory;
 use ot_term::{Nodes, TermId, VarKey};
 use ot_type::TableFault;
 use std::alloc::Global;

@@ -1,5 +1,5 @@
 //! Why a substitution is not put in.
-use ot_plain::Memory;
+use ot_logic::Memory;
 use ot_type::TableFault;
 
 /// Why there is no result of a substitution or of beta.

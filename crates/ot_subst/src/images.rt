@@ -1,8 +1,8 @@
 //! What variables and constants become.
 ghost use Rattle.std.specs.Prelude.{◌≡◌, ◌<◌, ◌+◌, max, false, Err, IfOk, length};
-ghost use Rattle.ot_plain.specs.Trees.{Free, Con};
-ghost use Rattle.ot_plain.specs.Hol.{is_shallow};
-ghost use Rattle.ot_plain.specs.Naming.{numbers};
+ghost use Rattle.ot_logic.specs.Trees.{Free, Con};
+ghost use Rattle.ot_logic.specs.Hol.{is_shallow};
+ghost use Rattle.ot_logic.specs.Naming.{numbers};
 ghost use Rattle.ot_type.specs.TypeTable.{type_at};
 ghost use Rattle.ot_term.specs.TermTable.{variable_of, IsGrownTo};
 ghost use Rattle.ot_subst.specs.Renamed.{pairs_of};
@@ -10,7 +10,7 @@ ghost use Rattle.ot_subst.specs.Walk.{becomes, bound_of, HasForm, AreReady};
 
 use crate::renamed::{Renamed, new_binder};
 use crate::subst::Subst;
-use ot_plain::NameId;
+use ot_logic::NameId;
 use ot_term::{Nodes, TermId, VarKey};
 use ot_type::{TableFault, TypeId};
 

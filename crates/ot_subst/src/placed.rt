@@ -1,9 +1,9 @@
 //! A map from terms to terms, by place.
 ghost use Rattle.std.specs.Prelude.{◌≡◌, ◌<◌, ◌++◌, ◌∷◌, [], None, OnOk, length, nat_eq};
 ghost use Rattle.std.specs.Map.{lookup};
-ghost use Rattle.ot_plain.specs.Table.{Extends};
+ghost use Rattle.ot_logic.specs.Table.{Extends};
 
-use ot_plain::Memory;
+use ot_logic::Memory;
 use ot_term::TermId;
 use std::alloc::Global;
 use std::marker::Model;

@@ -4,7 +4,7 @@ ghost use Rattle.std.specs.Map.{lookup};
 
 use crate::placed::Placed;
 use indexmap::IndexMap;
-use ot_plain::Memory;
+use ot_logic::Memory;
 use ot_term::TermId;
 use std::alloc::Global;
 use std::marker::Model;

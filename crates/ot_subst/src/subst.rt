@@ -2,15 +2,15 @@
 ghost use Rattle.std.specs.Prelude.{◌≡◌, ◌<◌, ◌++◌, [], Some, OnOk, OnErr, length};
 ghost use Rattle.std.specs.List.{All};
 ghost use Rattle.std.specs.Map.{lookup};
-ghost use Rattle.ot_plain.specs.Hol.{named_type};
-ghost use Rattle.ot_plain.specs.Naming.{numbers};
+ghost use Rattle.ot_logic.specs.NamedTerms.{named_type};
+ghost use Rattle.ot_logic.specs.Naming.{numbers};
 ghost use Rattle.ot_type.specs.TypeTable.{type_at};
 ghost use Rattle.ot_term.specs.Term.{TermTable};
 ghost use Rattle.ot_term.specs.TermTable.{term_at};
 ghost use Rattle.ot_subst.specs.Substitution.{same_key};
 
 use indexmap::IndexMap;
-use ot_plain::Memory;
+use ot_logic::Memory;
 use ot_term::{TermId, Terms, VarKey};
 use ot_type::TypeSubst;
 use smallvec::SmallVec;

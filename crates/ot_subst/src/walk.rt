@@ -1,10 +1,11 @@
 //! The walk that puts a substitution into a term, node by node.
 ghost use Rattle.std.specs.Prelude.{◌≡◌, ℕ, ◌<◌, ◌≤◌, ◌+◌, ◌++◌, ◌∷◌, [], suc, max, None, Some};
 ghost use Rattle.std.specs.Prelude.{Err, IfOk, OnOk, OnErr, length, slice_get, false, nat_eq};
-ghost use Rattle.ot_plain.specs.Trees.{Ty, NApp, NAbs};
-ghost use Rattle.ot_plain.specs.Hol.{is_shallow, nameless, named_type, fun_ty};
-ghost use Rattle.ot_plain.specs.Naming.{numbers};
-ghost use Rattle.ot_plain.specs.Bounds.{bound_named};
+ghost use Rattle.ot_logic.specs.Trees.{Ty, NApp, NAbs};
+ghost use Rattle.ot_logic.specs.Hol.{is_shallow, fun_ty};
+ghost use Rattle.ot_logic.specs.NamedTerms.{nameless, named_type};
+ghost use Rattle.ot_logic.specs.Naming.{numbers};
+ghost use Rattle.ot_logic.specs.Bounds.{bound_named};
 ghost use Rattle.ot_term.specs.TermTable.{term_at, term_of, variable_of, is_within_limit, IsGrownTo};
 ghost use Rattle.ot_term.specs.TermTable.{AreBelow};
 ghost use Rattle.ot_subst.specs.Renamed.{pairs_of};
@@ -16,7 +17,7 @@ use crate::clash::{Work, clashes};
 use crate::images::{constant_of, image_of};
 use crate::renamed::Renamed;
 use crate::results::Results;
-use ot_plain::Names;
+use ot_logic::Names;
 use ot_term::{Nodes, Steps, TermFault, TermId, TermNode, VarKey};
 use ot_type::TableFault;
 

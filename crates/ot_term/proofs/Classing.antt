@@ -3,11 +3,12 @@ use Rattle.std.proofs.Common.{◌≡◌, ℕ, zero, suc, ◌<◌, ◌↔◌, Boo
 use Rattle.std.proofs.Common.{length, slice_get, get_or, Some, refl, sym, ap, subst, ◌∙◌, arith}
 use Rattle.std.proofs.lemmas.Option.{none-some, same_Some, slice_get_within, get_or_from_slice_get}
 use Rattle.std.proofs.lemmas.List.{map-append}
-use Rattle.ot_plain.specs.Trees.{Ty, Tm, Bound, App, Abs, Named}
-use Rattle.ot_plain.specs.Hol.{nameless, close_at}
-use Rattle.ot_plain.specs.Naming.{numbers}
-use Rattle.ot_plain.specs.Table.{Extends, IsInjective}
-use Rattle.ot_plain.proofs.TableLemmas.{Extends-append, get_or-Extends, get_or-IsInjective}
+use Rattle.ot_logic.specs.Trees.{Ty, Tm, Bound, App, Abs, Named}
+use Rattle.ot_logic.specs.Hol.{close_at}
+use Rattle.ot_logic.specs.NamedTerms.{nameless}
+use Rattle.ot_logic.specs.Naming.{numbers}
+use Rattle.ot_logic.specs.Table.{Extends, IsInjective}
+use Rattle.ot_logic.proofs.TableLemmas.{Extends-append, get_or-Extends, get_or-IsInjective}
 use Rattle.indexmap.specs.IndexMap.{IndexMap, keys, insert_entry}
 use Rattle.indexmap.proofs.CallerLemmas.{insert_entry-new}
 use Rattle.indexmap.proofs.MapLemmas.{Missing-position}
@@ -17,7 +18,7 @@ use Rattle.ot_class.specs.Spelled.{spelled, IsOver}
 use Rattle.ot_class.proofs.Spelling.{number, over-more, over-close, spelled-grown, spelled-one, spelled-close}
 use Rattle.ot_term.specs.Classing.{form_at, form_of}
 use Rattle.ot_term.specs.TermTable.{term_at, term_of, variable_of, AreBelow, classes_of, IsClassOf}
-use Rattle.ot_term.specs.declared.table.Beside.{Beside}
+use Rattle.ot_term.specs.declared.table.NodeInfo.{NodeInfo}
 use Rattle.ot_term.specs.declared.term.TermNode.{TermNode}
 use Rattle.ot_term.specs.declared.term.TermNode.TheVariants.{Var, Const, App as AppNode, Abs as AbsNode}
 
@@ -41,27 +42,28 @@ class-grown tys cs ds e t c h =
     }
 
 -- ---- the list of classes
-pub class_at-entry : (es : List (TermNode × Beside)) (i c : ℕ) → slice_get (classes_of es) i ≡ Some c
-    → (n : TermNode) × (b : Beside) × (slice_get es i ≡ Some (n, b)) × (b.class ≡ c)
+pub class_at-entry : (es : List (TermNode × NodeInfo)) (i c : ℕ) → slice_get (classes_of es) i ≡ Some c
+    → (n : TermNode) × (b : NodeInfo) × (slice_get es i ≡ Some (n, b)) × (b.class ≡ c)
 class_at-entry [] i c p = absurd (none-some c p)
 class_at-entry (e ∷ es) zero c p = (e.0, e.1, refl, same_Some e.1.class c p)
 class_at-entry (e ∷ es) (suc i) c p = class_at-entry es i c p
 
-pub entry-class : (es : List (TermNode × Beside)) (i : ℕ) (n : TermNode) (b : Beside) → slice_get es i ≡ Some (n, b)
+pub entry-class : (es : List (TermNode × NodeInfo)) (i : ℕ) (n : TermNode) (b : NodeInfo)
+    → slice_get es i ≡ Some (n, b)
     → slice_get (classes_of es) i ≡ Some b.class
 entry-class [] i n b p = absurd (none-some (n, b) p)
-entry-class (e ∷ es) zero n b p = ap (λ (e : TermNode × Beside). Some e.1.class) (same_Some e (n, b) p)
+entry-class (e ∷ es) zero n b p = ap (λ (e : TermNode × NodeInfo). Some e.1.class) (same_Some e (n, b) p)
 entry-class (e ∷ es) (suc i) n b p = entry-class es i n b p
 
-pub classes-push : {S : Type 0} (same : TermNode → TermNode → Bool) (m : IndexMap TermNode Beside S) (n : TermNode)
-    (b : Beside) → position (same n) (keys m) ≡ None
-    → (new : List (TermNode × Beside)) → new ≡ insert_entry same m.entries n b
+pub classes-push : {S : Type 0} (same : TermNode → TermNode → Bool) (m : IndexMap TermNode NodeInfo S) (n : TermNode)
+    (b : NodeInfo) → position (same n) (keys m) ≡ None
+    → (new : List (TermNode × NodeInfo)) → new ≡ insert_entry same m.entries n b
     → Extends (classes_of m.entries) (classes_of new)
 classes-push same m n b absent new inserted =
     let entries : new ≡ m.entries ++ (n, b) ∷ [] =
     inserted ∙ insert_entry-new same m n b (Missing-position (same n) m.entries absent).value in
     let list : classes_of new ≡ classes_of m.entries ++ b.class ∷ [] = ap classes_of entries
-    ∙ map-append (λ (e : TermNode × Beside). e.1.class) m.entries ((n, b) ∷ []) in
+    ∙ map-append (λ (e : TermNode × NodeInfo). e.1.class) m.entries ((n, b) ∷ []) in
     subst (Extends (classes_of m.entries)) (sym list) (Extends-append (classes_of m.entries) (b.class ∷ []))
 
 -- ---- two classes are one exactly where the nameless forms are

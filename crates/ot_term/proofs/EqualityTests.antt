@@ -1,9 +1,9 @@
 -- Whether a type is one at which `=` is equality.
 use Rattle.std.specs.Prelude.{◌↔◌, IsTrue}
 use Rattle.std.proofs.Common.{◌≡◌, ℕ, Bool, false, true≢false, List, [], ◌∷◌, refl, sym, ap}
-use Rattle.ot_plain.specs.Trees.{Ty, TyOp, NoTys}
-use Rattle.ot_plain.specs.Hol.{bool_ty}
-use Rattle.ot_plain.specs.Naming.{numbers}
+use Rattle.ot_logic.specs.Trees.{Ty, TyOp, NoTys}
+use Rattle.ot_logic.specs.Hol.{bool_ty}
+use Rattle.ot_logic.specs.Naming.{numbers}
 use Rattle.ot_type.specs.TypeTable.{types_at}
 
 -- a test that is false, of what does not hold

@@ -1,9 +1,10 @@
 -- How an equation is made, and what type it has.
 use Rattle.std.proofs.Common.{◌≡◌, ℕ, ◌<◌, length, slice_get, Some, refl, sym, ap, ◌∙◌}
 use Rattle.std.proofs.lemmas.Option.{get_or_from_slice_get}
-use Rattle.ot_plain.specs.Trees.{Ty, TyVar, Named, NConst, NApp}
-use Rattle.ot_plain.specs.Hol.{fun_ty, bool_ty, named_type}
-use Rattle.ot_plain.specs.Naming.{numbers}
+use Rattle.ot_logic.specs.Trees.{Ty, TyVar, Named, NConst, NApp}
+use Rattle.ot_logic.specs.Hol.{fun_ty, bool_ty}
+use Rattle.ot_logic.specs.NamedTerms.{named_type}
+use Rattle.ot_logic.specs.Naming.{numbers}
 use Rattle.ot_type.specs.TypeTable.{type_at}
 use Rattle.ot_term.specs.Term.{TermTable}
 use Rattle.ot_term.specs.TermTable.{term_at, Grows}

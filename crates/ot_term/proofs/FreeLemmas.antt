@@ -2,10 +2,11 @@
 use Rattle.std.proofs.Common.{◌≡◌, ◌↔◌, ℕ, ◌<◌, inl, inr, Bool, Decides, IfOk, Result, Ok}
 use Rattle.std.proofs.Common.{Err, List, [], ◌∷◌, length, map, sym, ap, subst, ◌∙◌, arith}
 use Rattle.indexmap.specs.IndexSet.{IndexSet}
-use Rattle.ot_plain.specs.Lists.{IsMember, AreDistinct}
-use Rattle.ot_plain.specs.Trees.{Ty, Variable, Tm, Free, Con, Bound, App, Abs, Named}
-use Rattle.ot_plain.specs.Hol.{IsClosed, IsFree, nameless}
-use Rattle.ot_plain.specs.Naming.{numbers}
+use Rattle.ot_logic.specs.Lists.{IsMember, AreDistinct}
+use Rattle.ot_logic.specs.Trees.{Ty, Variable, Tm, Free, Con, Bound, App, Abs, Named}
+use Rattle.ot_logic.specs.Hol.{IsClosed, IsFree}
+use Rattle.ot_logic.specs.NamedTerms.{nameless}
+use Rattle.ot_logic.specs.Naming.{numbers}
 use Rattle.ot_type.specs.TypeTable.{type_at}
 use Rattle.ot_class.specs.Class.{class_at, variable_by, numbered, variable_of as nameless_variable}
 use Rattle.ot_class.specs.Spelled.{IsOver, spelled, spelled_ty, spelled_var}
@@ -13,11 +14,11 @@ use Rattle.ot_class.specs.declared.node.Key.{Key}
 use Rattle.ot_term.specs.Free.{var_key, AreFree}
 use Rattle.ot_term.specs.Term.{TermTable}
 use Rattle.ot_term.specs.TermTable.{variable_of, terms_of, IsClassOf, IsTermSound}
-use Rattle.ot_term.specs.declared.table.Beside.{Beside}
+use Rattle.ot_term.specs.declared.table.NodeInfo.{NodeInfo}
 use Rattle.ot_term.specs.declared.term.TermNode.{TermNode}
 use Rattle.ot_term.specs.declared.term.VarKey.{VarKey}
 use Rattle.ot_term.proofs.TermTableLemmas.{table_of}
-use Rattle.ot_plain.proofs.Members.{IsMember-map, IsMember-map_back, All-from_members}
+use Rattle.ot_logic.proofs.Members.{IsMember-map, IsMember-map_back, All-from_members}
 
 -- the images of distinct items by a function that tells them apart
 pub distinct-map : {X Y : Type 0} (f : X → Y) → ((x y : X) → f x ≡ f y → x ≡ y) → (xs : List X) → AreDistinct xs
@@ -118,7 +119,7 @@ closed_of_class tys cs t c class b test = (
 )
 
 -- a number of the table is that of an entry
-pub entry_within : (tys : List (Ty ℕ)) (cs : List (Tm ℕ)) (es : List (TermNode × Beside)) → IsTermSound tys cs es
+pub entry_within : (tys : List (Ty ℕ)) (cs : List (Tm ℕ)) (es : List (TermNode × NodeInfo)) → IsTermSound tys cs es
     (terms_of tys es) → (t : TermTable) → table_of tys es ≡ t → (i : ℕ) → i < length t.terms → i < length es
 entry_within tys cs es sound t view i h =
     let same : length t.terms ≡ length es = ap (λ (t : TermTable). length t.terms) (sym view)

@@ -6,19 +6,20 @@ use Rattle.std.specs.List.{All, list_any}
 use Rattle.std.proofs.Common.{◌≡◌, ◌↔◌, ℕ, ◌<◌, IfOk, Result, Ok, Err, List}
 use Rattle.std.proofs.Common.{[], ◌∷◌, length, map, refl, sym, ap, subst, ◌∙◌}
 use Rattle.std.proofs.lemmas.Bool.Decides.{Decides-like, Decides-or, Decides-eqb, same_from_decides}
-use Rattle.ot_plain.specs.Lists.{IsMember, AreDistinct}
-use Rattle.ot_plain.specs.Trees.{Ty, TyVar, Variable, Tm, Named}
-use Rattle.ot_plain.specs.Hol.{IsFree, is_free, nameless}
-use Rattle.ot_plain.specs.Naming.{numbers}
-use Rattle.ot_plain.specs.Table.{IsInjective}
-use Rattle.ot_plain.proofs.TableLemmas.{get_or-IsInjective}
+use Rattle.ot_logic.specs.Lists.{IsMember, AreDistinct}
+use Rattle.ot_logic.specs.Trees.{Ty, TyVar, Variable, Tm, Named}
+use Rattle.ot_logic.specs.Hol.{IsFree, is_free}
+use Rattle.ot_logic.specs.NamedTerms.{nameless}
+use Rattle.ot_logic.specs.Naming.{numbers}
+use Rattle.ot_logic.specs.Table.{IsInjective}
+use Rattle.ot_logic.proofs.TableLemmas.{get_or-IsInjective}
 use Rattle.ot_laws.proofs.Tests.{tells_numbers, is_free-is}
 use Rattle.ot_class.specs.Class.{class_at, variable_by}
 use Rattle.ot_term.specs.Free.{key_at, AreTypesOf}
 use Rattle.ot_term.specs.TermTable.{variable_of, IsClassOf}
 use Rattle.ot_term.proofs.FreeLemmas.{free-over, spelled-free, free-spelled, distinct-map}
 use Rattle.ot_term.specs.declared.term.VarKey.{VarKey}
-use Rattle.ot_plain.proofs.Members.{IsMember-map, IsMember-map_back, All-at_member, All-from_members}
+use Rattle.ot_logic.proofs.Members.{IsMember-map, IsMember-map_back, All-at_member, All-from_members}
 
 -- ---- the types that stand beside a name
 pub types_of_class : (tys : List (Ty ℕ)) (cs : List (Tm ℕ)) (t : Named ℕ) (c name : ℕ) (ks : List ℕ)

@@ -3,13 +3,14 @@ use Rattle.std.specs.List.{flat_map}
 use Rattle.std.proofs.Common.{◌≡◌, ℕ, ◌+◌, ◌<◌, ◌⊎◌, inl, inr, List, [], ◌∷◌, ◌++◌, length}
 use Rattle.std.proofs.Common.{map, take, get_or, Some, refl, sym, ap, subst, ◌∙◌, arith}
 use Rattle.std.proofs.lemmas.List.{flat_map_more}
-use Rattle.ot_plain.specs.Lists.{IsMember, IsSameSet, AreDistinct}
-use Rattle.ot_plain.specs.Naming.{numbers}
-use Rattle.ot_plain.specs.Hol.{nameless, vars_ty, vars_all, vars_tm, ops_ty, ops_all, symbols_ty, symbols_tm}
-use Rattle.ot_plain.specs.Table.{IsInjective}
-use Rattle.ot_plain.specs.Trees.{Ty, Tys, TyVar, TyOp, NoTys, MoreTys, Named, NVar, NConst}
-use Rattle.ot_plain.specs.Trees.{NApp, NAbs, Symbol as SymbolTree, ConSymbol, OpSymbol}
-use Rattle.ot_plain.proofs.TableLemmas.{get_or-IsInjective}
+use Rattle.ot_logic.specs.Lists.{IsMember, IsSameSet, AreDistinct}
+use Rattle.ot_logic.specs.Naming.{numbers}
+use Rattle.ot_logic.specs.Hol.{vars_ty, vars_all, vars_tm, ops_ty, ops_all, symbols_ty, symbols_tm}
+use Rattle.ot_logic.specs.NamedTerms.{nameless}
+use Rattle.ot_logic.specs.Table.{IsInjective}
+use Rattle.ot_logic.specs.Trees.{Ty, Tys, TyVar, TyOp, NoTys, MoreTys, Named, NVar, NConst}
+use Rattle.ot_logic.specs.Trees.{NApp, NAbs, Symbol as SymbolTree, ConSymbol, OpSymbol}
+use Rattle.ot_logic.proofs.TableLemmas.{get_or-IsInjective}
 use Rattle.ot_type.specs.TypeTable.{type_at}
 use Rattle.ot_type.specs.Subtypes.{IsSubtype, IsInside, IsFalling}
 use Rattle.ot_laws.proofs.Sets.{same_set-then, same_set-append, same_set-self, same_set-both_ways}
@@ -25,7 +26,7 @@ use Rattle.ot_term.specs.declared.term.SymbolKind.TheVariants.{Con}
 use Rattle.ot_term.specs.declared.term.TermNode.{TermNode}
 use Rattle.ot_term.specs.declared.term.TermNode.TheVariants.{Var, Const, App, Abs}
 use Rattle.ot_term.proofs.Gathering.{take_item}
-use Rattle.ot_plain.proofs.Members.{IsMember-cases, IsMember-left, IsMember-map, IsMember-map_back, IsMember-right}
+use Rattle.ot_logic.proofs.Members.{IsMember-cases, IsMember-left, IsMember-map, IsMember-map_back, IsMember-right}
 
 -- ---- a loop that adds what each number gives
 module _ {A : Type 0} (f : ℕ → List A) (old : List A) (ids : List ℕ) (i x : ℕ) (within : i < length ids)

@@ -6,8 +6,8 @@ use Rattle.std.specs.BTreeSet.{insert_key}
 use Rattle.std.specs.List.{All}
 use Rattle.std.proofs.lemmas.List.{take_more}
 use Rattle.std.proofs.lemmas.Option.{get_or_from_slice_get, same_Some}
-use Rattle.ot_plain.specs.Lists.{IsMember, IsSameSet}
-use Rattle.ot_plain.specs.Trees.{Ty, TyVar, TyOp, Variable, Named, NVar, NConst, NApp, NAbs}
+use Rattle.ot_logic.specs.Lists.{IsMember, IsSameSet}
+use Rattle.ot_logic.specs.Trees.{Ty, TyVar, TyOp, Variable, Named, NVar, NConst, NApp, NAbs}
 use Rattle.ot_type.specs.TypeTable.{type_at, types_at}
 use Rattle.ot_type.specs.Subtypes.{IsSubtype}
 use Rattle.ot_type.proofs.SubtypeLemmas.{IsSubtype-refl, IsSubtype-trans, parts_of_op}
@@ -17,7 +17,7 @@ use Rattle.ot_term.specs.Walk.{AddsParts, AreFound, IsInsideSome}
 use Rattle.ot_term.specs.Gather.{IsSubterm, own_type, IsMentioned, AreOwnTypes}
 use Rattle.ot_term.specs.declared.term.TermNode.{TermNode}
 use Rattle.ot_term.proofs.Walking.{IsSearch, search_start, set_one, set_with}
-use Rattle.ot_plain.proofs.Members.{IsMember-cases, IsMember-left, IsMember-right, IsMember-push}
+use Rattle.ot_logic.proofs.Members.{IsMember-cases, IsMember-left, IsMember-right, IsMember-push}
 
 -- ---- subterms
 pub IsSubterm-refl : (t : Named ℕ) → IsSubterm t t

@@ -1,7 +1,7 @@
 -- Tables that grow: trees stay at their numbers.
 use Rattle.std.proofs.Common.{◌≡◌, ℕ, ◌<◌, ◌≤◌, length, arith}
-use Rattle.ot_plain.specs.Trees.{TyVar, NConst, NAbs}
-use Rattle.ot_plain.proofs.TableLemmas.{Extends-refl, Extends-trans, get_or-Extends}
+use Rattle.ot_logic.specs.Trees.{TyVar, NConst, NAbs}
+use Rattle.ot_logic.proofs.TableLemmas.{Extends-refl, Extends-trans, get_or-Extends}
 use Rattle.ot_type.specs.TypeTable.{type_at}
 use Rattle.ot_term.specs.Term.{TermTable}
 use Rattle.ot_term.specs.TermTable.{term_at, variable_of, Grows, IsGrownTo}

@@ -4,9 +4,10 @@ use Rattle.std.specs.List.{list_all}
 use Rattle.std.proofs.Common.{◌≡◌, ℕ, ◌<◌, ◌≤◌, Bool, true, false, ◌++◌, Some, refl, sym, ap, ◌∙◌, arith}
 use Rattle.std.proofs.lemmas.Bool.{leb-true, le-leb, and_parts, and_from, both_ways}
 use Rattle.std.proofs.lemmas.List.Folds.{list_all-append}
-use Rattle.ot_plain.specs.Trees.{Ty, Variable, Named, NVar, NConst, NApp, NAbs}
-use Rattle.ot_plain.specs.Hol.{depth_ty, depth_limit, is_shallow_ty, is_shallow_type, named_type, named_depth, parts}
-use Rattle.ot_plain.specs.Naming.{numbers}
+use Rattle.ot_logic.specs.Trees.{Ty, Variable, Named, NVar, NConst, NApp, NAbs}
+use Rattle.ot_logic.specs.Hol.{depth_ty, depth_limit, is_shallow_ty, is_shallow_type}
+use Rattle.ot_logic.specs.NamedTerms.{named_type, named_depth, parts}
+use Rattle.ot_logic.specs.Naming.{numbers}
 use Rattle.ot_laws.specs.Limits.{is_shallow_named}
 use Rattle.ot_laws.proofs.Limits.{shallow-app, shallow-abs, shallow-nameless}
 use Rattle.ot_laws.proofs.Tests.{tells_numbers}

@@ -1,10 +1,11 @@
 -- The numbers of names in a table of terms, and the type of an abstraction.
 use Rattle.std.specs.Prelude.{◌≡◌, ℕ, zero, suc, ◌<◌, ◌≤◌, max, Some, List, [], ◌∷◌, ◌++◌, length}
 use Rattle.std.proofs.Common.{arith, ap}
-use Rattle.ot_plain.specs.Trees.{Ty, Named, NAbs, Variable}
-use Rattle.ot_plain.specs.Hol.{fun_ty, named_type}
-use Rattle.ot_plain.specs.Naming.{numbers}
-use Rattle.ot_plain.specs.Bounds.{bound_named, names_in, names_in_terms}
+use Rattle.ot_logic.specs.Trees.{Ty, Named, NAbs, Variable}
+use Rattle.ot_logic.specs.Hol.{fun_ty}
+use Rattle.ot_logic.specs.NamedTerms.{named_type}
+use Rattle.ot_logic.specs.Naming.{numbers}
+use Rattle.ot_logic.specs.Bounds.{bound_named, names_in, names_in_terms}
 use Rattle.ot_term.specs.Term.{TermTable}
 use Rattle.ot_term.specs.TermTable.{term_at, NamesUpTo}
 

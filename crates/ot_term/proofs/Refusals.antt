@@ -3,9 +3,10 @@ use Rattle.std.specs.Result.{IsErrAnd}
 use Rattle.std.proofs.Common.{◌≡◌, ℕ, Result, Ok, Err, Some, refl, sym, ap, ◌∙◌}
 use Rattle.ot_type.specs.declared.fault.TableFault.{TableFault}
 use Rattle.ot_type.specs.declared.fault.TableFault.TheVariants as of_types
-use Rattle.ot_plain.specs.Trees.{Ty, Named, NApp}
-use Rattle.ot_plain.specs.Hol.{fun_ty, named_type, applied}
-use Rattle.ot_plain.specs.Naming.{numbers}
+use Rattle.ot_logic.specs.Trees.{Ty, Named, NApp}
+use Rattle.ot_logic.specs.Hol.{fun_ty, applied}
+use Rattle.ot_logic.specs.NamedTerms.{named_type}
+use Rattle.ot_logic.specs.Naming.{numbers}
 use Rattle.ot_laws.proofs.Tests.{tells_numbers}
 use Rattle.ot_laws.proofs.Typing.{result_ty-fun}
 use Rattle.ot_term.specs.Fault.{term_fault}

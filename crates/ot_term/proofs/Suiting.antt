@@ -1,9 +1,10 @@
 -- What may be put beside a new node.
 use Rattle.std.proofs.Common.{◌≡◌, ℕ, ◌<◌, ◌≤◌, length, Some, true, refl, arith}
 use Rattle.std.proofs.lemmas.Option.{slice_get-get_or}
-use Rattle.ot_plain.specs.Trees.{TyVar, NVar, NConst, NApp, NAbs}
-use Rattle.ot_plain.specs.Hol.{depth_ty, depth_limit, named_type, named_depth}
-use Rattle.ot_plain.specs.Naming.{numbers}
+use Rattle.ot_logic.specs.Trees.{TyVar, NVar, NConst, NApp, NAbs}
+use Rattle.ot_logic.specs.Hol.{depth_ty, depth_limit}
+use Rattle.ot_logic.specs.NamedTerms.{named_type, named_depth}
+use Rattle.ot_logic.specs.Naming.{numbers}
 use Rattle.ot_type.specs.TypeTable.{type_at}
 use Rattle.ot_term.specs.Term.{TermTable}
 use Rattle.ot_term.specs.TermTable.{term_at, variable_of, is_within_limit, Suits, IsTermTable}

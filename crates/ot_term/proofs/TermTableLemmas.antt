@@ -5,12 +5,12 @@ use Rattle.std.proofs.Common.{◌++◌, length, slice_get, get_or, Some, refl, s
 use Rattle.std.proofs.lemmas.List.{length-map}
 use Rattle.std.proofs.lemmas.Option.{get_or_from_slice_get, slice_get-get_or, same_Some}
 use Rattle.std.specs.Cmp.Derive.{both_true}
-use Rattle.ot_plain.specs.Trees.{Ty, TyVar, Tm, Named, NVar, NConst, NApp, NAbs}
-use Rattle.ot_plain.specs.Hol.{depth_limit}
-use Rattle.ot_plain.specs.Table.{Extends, IsInjective}
-use Rattle.ot_plain.specs.Interned.{NodeLaws, grow}
-use Rattle.ot_plain.proofs.TableLemmas.{Extends-refl, get_or-Extends, get_or-IsInjective}
-use Rattle.ot_plain.proofs.InternedLemmas.{entry_at, found, pushed}
+use Rattle.ot_logic.specs.Trees.{Ty, TyVar, Tm, Named, NVar, NConst, NApp, NAbs}
+use Rattle.ot_logic.specs.Hol.{depth_limit}
+use Rattle.ot_logic.specs.Table.{Extends, IsInjective}
+use Rattle.ot_logic.specs.Interned.{NodeLaws, grow}
+use Rattle.ot_logic.proofs.TableLemmas.{Extends-refl, get_or-Extends, get_or-IsInjective}
+use Rattle.ot_logic.proofs.InternedLemmas.{entry_at, found, pushed}
 use Rattle.indexmap.specs.IndexMap.{IndexMap, keys, get, insert_entry, insert_index, ContainsKey}
 use Rattle.indexmap.proofs.MapLemmas.{Found-position, some_index, index-absent, or_len-absent, absent_from_lookup}
 use Rattle.ot_type.specs.TypeTable.{type_at, IsTypeTable}
@@ -21,7 +21,7 @@ use Rattle.ot_term.proofs.Classing.{class-types, class-grown, class_at-entry, ar
 use Rattle.ot_term.specs.Classing.{form_of, form_with, IsFormBelow, PartsBelow}
 use Rattle.ot_term.specs.TermTable.{variable_of, term_at, term_of, terms_of, AreBelow, classes_of, Suits}
 use Rattle.ot_term.specs.TermTable.{IsClassOf, IsBeside, AreTermNodes, IsTermTable, IsTermSound, Grows}
-use Rattle.ot_term.specs.declared.table.Beside.{Beside}
+use Rattle.ot_term.specs.declared.table.NodeInfo.{NodeInfo}
 use Rattle.ot_term.specs.declared.term.VarKey.{VarKey}
 use Rattle.ot_term.specs.declared.term.TermNode.{TermNode}
 use Rattle.ot_term.specs.declared.term.TermNode.TheVariants.{Var, Const, App, Abs}
@@ -95,7 +95,7 @@ module _ (tys : List (Ty ℕ)) where
   same_tree types ts terms (Abs v x) (App g y) a b p = cc
 
   -- what stands beside a node, by its tree alone
-  beside_of : (cs : List (Tm ℕ)) (ts : List (Named ℕ)) (n : TermNode) (b : Beside) (t : Named ℕ)
+  beside_of : (cs : List (Tm ℕ)) (ts : List (Named ℕ)) (n : TermNode) (b : NodeInfo) (t : Named ℕ)
       → t ≡ term_of tys ts n → Suits tys t b.ty b.depth → IsClassOf tys cs t b.class → IsBeside tys cs ts n b
   beside_of cs ts n b t e s k =
       record {
@@ -124,8 +124,8 @@ module _ (tys us : List (Ty ℕ)) (e : Extends tys us) where
   term_of-types ts k (Abs v b) h = λ j. NAbs (record { name = v.name; ty = type_at-Extends tys us e v.ty h.0 j })
       (term_at ts b)
 
-  grow-types : (es : List (TermNode × Beside))
-      → ((i : ℕ) (n : TermNode) (b : Beside) → slice_get es i ≡ Some (n, b) → (k : ℕ) × AreBelow (length tys) k n)
+  grow-types : (es : List (TermNode × NodeInfo))
+      → ((i : ℕ) (n : TermNode) (b : NodeInfo) → slice_get es i ≡ Some (n, b) → (k : ℕ) × AreBelow (length tys) k n)
       → (ts : List (Named ℕ)) → grow (term_of us) ts es ≡ grow (term_of tys) ts es
   grow-types [] below ts = refl
   grow-types (d ∷ es) below ts =
@@ -147,11 +147,11 @@ module _ (tys us : List (Ty ℕ)) (e : Extends tys us) where
     limit = h.limit;
   }
 
-  pub terms_of-types : (cs : List (Tm ℕ)) (es : List (TermNode × Beside)) (ts : List (Named ℕ))
+  pub terms_of-types : (cs : List (Tm ℕ)) (es : List (TermNode × NodeInfo)) (ts : List (Named ℕ))
       → AreTermNodes tys cs es ts → terms_of us es ≡ terms_of tys es
   terms_of-types cs es ts nodes = grow-types es (λ i n b p. (i, (nodes.entries i n b p).below)) []
 
-  pub sound-types : (cs : List (Tm ℕ)) (es : List (TermNode × Beside)) (ts : List (Named ℕ))
+  pub sound-types : (cs : List (Tm ℕ)) (es : List (TermNode × NodeInfo)) (ts : List (Named ℕ))
       → IsTermSound tys cs es ts → IsTypeTable us → IsTermSound us cs es ts
   sound-types cs es ts sound table = record {
     nodes = record {
@@ -180,7 +180,7 @@ module _ (tys us : List (Ty ℕ)) (e : Extends tys us) where
   }
 
 -- ---- the nameless terms grow, and the terms stay
-pub sound-classes : (tys : List (Ty ℕ)) (cs ds : List (Tm ℕ)) (es : List (TermNode × Beside)) (ts : List (Named ℕ))
+pub sound-classes : (tys : List (Ty ℕ)) (cs ds : List (Tm ℕ)) (es : List (TermNode × NodeInfo)) (ts : List (Named ℕ))
     → Extends cs ds → IsInjective ds → IsTermSound tys cs es ts → IsTermSound tys ds es ts
 sound-classes tys cs ds es ts e one sound = record {
   nodes = record {
@@ -202,17 +202,17 @@ sound-classes tys cs ds es ts e one sound = record {
   table = sound.table;
 }
 
-module _ (tys : List (Ty ℕ)) (cs : List (Tm ℕ)) (es : List (TermNode × Beside)) (ts : List (Named ℕ))
+module _ (tys : List (Ty ℕ)) (cs : List (Tm ℕ)) (es : List (TermNode × NodeInfo)) (ts : List (Named ℕ))
     (nodes : AreTermNodes tys cs es ts) where
   -- what stands beside a node is of the term at its number
-  pub suits_at : (i : ℕ) (n : TermNode) (b : Beside) → slice_get es i ≡ Some (n, b)
+  pub suits_at : (i : ℕ) (n : TermNode) (b : NodeInfo) → slice_get es i ≡ Some (n, b)
       → Suits tys (term_at ts i) b.ty b.depth
   suits_at i n b p =
       let e = nodes.entries i n b p in
       subst (λ t. Suits tys t b.ty b.depth) (sym (get_or_from_slice_get ts i _ (NConst 0 (TyVar 0)) e.tree))
       e.fits.suits
 
-  classed_at : (i : ℕ) (n : TermNode) (b : Beside) → slice_get es i ≡ Some (n, b)
+  classed_at : (i : ℕ) (n : TermNode) (b : NodeInfo) → slice_get es i ≡ Some (n, b)
       → IsClassOf tys cs (term_at ts i) b.class
   classed_at i n b p =
       let e = nodes.entries i n b p in
@@ -232,12 +232,12 @@ module _ (tys : List (Ty ℕ)) (cs : List (Tm ℕ)) (es : List (TermNode × Besi
     injective = nodes.injective;
     typed = λ i u p. let s = suits i u p in (type_at tys s.0.ty, s.1.typed);
     limit = λ i u p. (suits i u p).1.limit;
-    classed = length-map es (λ (e : TermNode × Beside). e.1.class) ∙ sym nodes.same_length;
+    classed = length-map es (λ (e : TermNode × NodeInfo). e.1.class) ∙ sym nodes.same_length;
     alike = λ i j c d p q. are_alike tys cs one forms (term_at ts i) (term_at ts j) c d (class_found i c p)
         (class_found j d q);
   }
     where
-      suits : (i : ℕ) (u : Named ℕ) → slice_get ts i ≡ Some u → (b : Beside) × Suits tys u b.ty b.depth
+      suits : (i : ℕ) (u : Named ℕ) → slice_get ts i ≡ Some u → (b : NodeInfo) × Suits tys u b.ty b.depth
       suits i u p =
           let e = entry_at (term_of tys) (AreBelow (length tys)) (IsBeside tys cs) node_eq (laws tys one cs) es ts
           nodes i u p in
@@ -246,7 +246,7 @@ module _ (tys : List (Ty ℕ)) (cs : List (Tm ℕ)) (es : List (TermNode × Besi
           (e.1, subst (λ t. Suits tys t e.1.ty e.1.depth) (sym same) d.fits.suits)
 
 -- what contracts see of the entries
-abbrev pub table_of : List (Ty ℕ) → List (TermNode × Beside) → TermTable
+abbrev pub table_of : List (Ty ℕ) → List (TermNode × NodeInfo) → TermTable
 table_of tys es = record { types = tys; terms = terms_of tys es; classes = classes_of es }
 
 only_parts : (j k : ℕ) (n : TermNode) → AreBelow j k n → PartsBelow k n
@@ -255,13 +255,14 @@ only_parts j k (Const n t) h = tt
 only_parts j k (App f x) h = h
 only_parts j k (Abs v b) h = h.1
 
-module _ (tys : List (Ty ℕ)) (cs : List (Tm ℕ)) (es : List (TermNode × Beside))
+module _ (tys : List (Ty ℕ)) (cs : List (Tm ℕ)) (es : List (TermNode × NodeInfo))
     (sound : IsTermSound tys cs es (terms_of tys es)) where
   -- the class of each number
   pub class_at-number : (i : ℕ) → i < length es
       → IsClassOf tys cs (term_at (terms_of tys es) i) (get_or (classes_of es) i 0)
   class_at-number i h = class_found tys cs es (terms_of tys es) sound.nodes i (get_or (classes_of es) i 0)
-      (slice_get-get_or (classes_of es) i 0 (omega (arith, h, length-map es (λ (e : TermNode × Beside). e.1.class))))
+      (slice_get-get_or (classes_of es) i 0
+      (omega (arith, h, length-map es (λ (e : TermNode × NodeInfo). e.1.class))))
 
   pub classes_within : (i : ℕ) → i < length es → get_or (classes_of es) i 0 < length cs
   classes_within i h = (class_at-number i h).within
@@ -288,14 +289,14 @@ pub depth-limit : (tys : List (Ty ℕ)) (t : Named ℕ) (ty depth : ℕ) → Sui
 depth-limit tys t ty depth s = omega (arith, s.depth, (limit_parts t s.limit).0)
 
 -- what an insert of a new node leaves, of the table t
-pub record PushedTerm (tys : List (Ty ℕ)) (cs : List (Tm ℕ)) (es : List (TermNode × Beside)) (t : TermTable)
-    (n : TermNode) (new : List (TermNode × Beside)) : Type 0 where
+pub record PushedTerm (tys : List (Ty ℕ)) (cs : List (Tm ℕ)) (es : List (TermNode × NodeInfo)) (t : TermTable)
+    (n : TermNode) (new : List (TermNode × NodeInfo)) : Type 0 where
   pub sound : IsTermSound tys cs new (terms_of tys new)
   pub trees : terms_of tys new ≡ t.terms ++ term_of t.types t.terms n ∷ []
   pub last : slice_get (terms_of tys new) (length es) ≡ Some (term_of t.types t.terms n)
   pub grows : Grows t (record { types = tys; terms = terms_of tys new; classes = classes_of new })
 
-module _ {S : Type 0} (tys : List (Ty ℕ)) (cs : List (Tm ℕ)) (m : IndexMap TermNode Beside S)
+module _ {S : Type 0} (tys : List (Ty ℕ)) (cs : List (Tm ℕ)) (m : IndexMap TermNode NodeInfo S)
     (sound : IsTermSound tys cs m.entries (terms_of tys m.entries)) (n : TermNode) where
   pub found_term : (t : TermTable) → table_of tys m.entries ≡ t → (i : ℕ) → position (node_eq n) (keys m) ≡ Some i
       → slice_get t.terms i ≡ Some (term_of t.types t.terms n)
@@ -304,7 +305,7 @@ module _ {S : Type 0} (tys : List (Ty ℕ)) (cs : List (Tm ℕ)) (m : IndexMap T
       (found (term_of tys) (AreBelow (length tys)) (IsBeside tys cs) node_eq (laws tys sound.table.types.injective cs)
       m.entries (terms_of tys m.entries) sound.nodes n i p)
 
-  pub pushed_term : (b : Beside) (new : List (TermNode × Beside)) → position (node_eq n) (keys m) ≡ None
+  pub pushed_term : (b : NodeInfo) (new : List (TermNode × NodeInfo)) → position (node_eq n) (keys m) ≡ None
       → new ≡ insert_entry node_eq m.entries n b
       → IsClassOf tys cs (term_of tys (terms_of tys m.entries) n) b.class
       → (t : TermTable) → table_of tys m.entries ≡ t → AreBelow (length t.types) (length t.terms) n
@@ -341,7 +342,7 @@ form_below k m ks within (Const n t) h = tt
 form_below k m ks within (App f x) h = (within f h.0, within x h.1)
 form_below k m ks within (Abs v b) h = within b h
 
-module _ {S : Type 0} (tys : List (Ty ℕ)) (cs : List (Tm ℕ)) (m : IndexMap TermNode Beside S)
+module _ {S : Type 0} (tys : List (Ty ℕ)) (cs : List (Tm ℕ)) (m : IndexMap TermNode NodeInfo S)
     (sound : IsTermSound tys cs m.entries (terms_of tys m.entries)) (t : TermTable)
     (view : table_of tys m.entries ≡ t) (n : TermNode) where
   pub classes_below : AreBelow (length t.types) (length t.terms) n
@@ -361,10 +362,10 @@ module _ {S : Type 0} (tys : List (Ty ℕ)) (cs : List (Tm ℕ)) (m : IndexMap T
       by None p = absurd (true≢false (sym there ∙ sym (some_index (node_eq n) m.entries) ∙ ap is_some p))
 
   -- the class was added to the nameless terms before
-  pub put_in : (ds : List (Tm ℕ)) → Extends cs ds → IsInjective ds → (b : Beside)
+  pub put_in : (ds : List (Tm ℕ)) → Extends cs ds → IsInjective ds → (b : NodeInfo)
       → AreBelow (length t.types) (length t.terms) n → Suits t.types (term_of t.types t.terms n) b.ty b.depth
       → slice_get ds b.class ≡ Some (form_of cs (classes_of m.entries) n) → get node_eq m n ≡ None
-      → (new : List (TermNode × Beside)) → new ≡ insert_entry node_eq m.entries n b
+      → (new : List (TermNode × NodeInfo)) → new ≡ insert_entry node_eq m.entries n b
       → PushedTerm tys ds m.entries t n new
   put_in ds more one b below suits form none new inserted =
       let class = class_added tys cs m.entries sound t view ds n b.class below form in
@@ -373,6 +374,6 @@ module _ {S : Type 0} (tys : List (Ty ℕ)) (cs : List (Tm ℕ)) (m : IndexMap T
       inserted class t view below suits
 
 -- a new node goes last
-pub number_new : {S : Type 0} (m : IndexMap TermNode Beside S) (n : TermNode) → get node_eq m n ≡ None → (i : ℕ)
+pub number_new : {S : Type 0} (m : IndexMap TermNode NodeInfo S) (n : TermNode) → get node_eq m n ≡ None → (i : ℕ)
     → i ≡ insert_index node_eq m n → i ≡ length m.entries
 number_new m n none i at = at ∙ or_len-absent (node_eq n) m.entries (absent_from_lookup (node_eq n) m.entries none)

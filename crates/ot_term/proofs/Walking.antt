@@ -6,12 +6,12 @@ use Rattle.std.specs.List.{All}
 use Rattle.std.specs.Ordering.{nat_cmp}
 use Rattle.std.specs.declared.cmp.Ordering.TheVariants.{Less}
 use Rattle.std.specs.BTreeSet.{insert_key}
-use Rattle.ot_plain.specs.Lists.{IsMember, IsSameSet}
+use Rattle.ot_logic.specs.Lists.{IsMember, IsSameSet}
 use Rattle.ot_type.specs.Subtypes.{IsFalling}
 use Rattle.ot_type.proofs.SubtypeLemmas.{less_is, added_one}
 use Rattle.ot_term.specs.Walk.{AreFound, AddsParts, IsInsideSome}
-use Rattle.ot_plain.proofs.Members.{IsMember-cases, IsMember-last, IsMember-left, IsMember-right, IsMember-push}
-use Rattle.ot_plain.proofs.Members.{All-at_member}
+use Rattle.ot_logic.proofs.Members.{IsMember-cases, IsMember-last, IsMember-left, IsMember-right, IsMember-push}
+use Rattle.ot_logic.proofs.Members.{All-at_member}
 
 -- a set of numbers with one more
 nothing_more : (ks : List ℕ) → IsSameSet ks (ks ++ [])

@@ -1,8 +1,8 @@
 -- The nameless form of a node by the classes of its parts.
 use Rattle.std.specs.Prelude.{ℕ, ◌<◌, List, slice_index_or}
-use Rattle.ot_plain.specs.Trees.{Tm, Free, Con, App, Abs}
-use Rattle.ot_plain.specs.Hol.{close}
-use Rattle.ot_plain.specs.Naming.{numbers}
+use Rattle.ot_logic.specs.Trees.{Tm, Free, Con, App, Abs}
+use Rattle.ot_logic.specs.Hol.{close}
+use Rattle.ot_logic.specs.Naming.{numbers}
 use Rattle.ot_class.specs.Class.{numbered, variable_by, class_at}
 use Rattle.ot_term.specs.declared.term.TermNode.{TermNode}
 use Rattle.ot_term.specs.declared.term.TermNode.TheVariants as node

@@ -1,8 +1,8 @@
 -- Equations of named terms.
 use Rattle.std.specs.Prelude.{◌≡◌, ℕ, slice_get, Some}
-use Rattle.ot_plain.specs.Trees.{Ty, Named, NConst, NApp}
-use Rattle.ot_plain.specs.Hol.{fun_ty, bool_ty}
-use Rattle.ot_plain.specs.Naming.{numbers}
+use Rattle.ot_logic.specs.Trees.{Ty, Named, NConst, NApp}
+use Rattle.ot_logic.specs.Hol.{fun_ty, bool_ty}
+use Rattle.ot_logic.specs.Naming.{numbers}
 use Rattle.ot_term.specs.Term.{TermTable}
 use Rattle.ot_term.specs.declared.table.equation.Equality.{Equality}
 

@@ -1,7 +1,7 @@
 -- What is gathered from a term: its subterms, and the types that it mentions.
 use Rattle.std.specs.Prelude.{◌≡◌, ℕ, ◌<◌, List, length, Option, Some, None, ◌⊎◌}
-use Rattle.ot_plain.specs.Lists.{IsMember}
-use Rattle.ot_plain.specs.Trees.{Ty, Named, NVar, NConst, NApp, NAbs}
+use Rattle.ot_logic.specs.Lists.{IsMember}
+use Rattle.ot_logic.specs.Trees.{Ty, Named, NVar, NConst, NApp, NAbs}
 use Rattle.ot_type.specs.TypeTable.{type_at}
 use Rattle.ot_type.specs.Subtypes.{IsSubtype}
 use Rattle.ot_term.specs.Term.{TermTable}

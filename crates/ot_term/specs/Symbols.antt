@@ -1,6 +1,6 @@
 -- Symbols by number, and those that stand at the root of a term or a type.
 use Rattle.std.specs.Prelude.{ℕ, List, [], ◌∷◌}
-use Rattle.ot_plain.specs.Trees.{Ty, TyVar, TyOp, Named, NConst, Symbol as SymbolTree, ConSymbol, OpSymbol}
+use Rattle.ot_logic.specs.Trees.{Ty, TyVar, TyOp, Named, NConst, Symbol as SymbolTree, ConSymbol, OpSymbol}
 use Rattle.ot_term.specs.declared.term.Symbol.{Symbol}
 use Rattle.ot_term.specs.declared.term.SymbolKind.{SymbolKind}
 use Rattle.ot_term.specs.declared.term.SymbolKind.TheVariants.{Con, TyOp as Operator}

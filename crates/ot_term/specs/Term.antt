@@ -2,8 +2,8 @@
 -- number of each term's alpha class.
 use Rattle.std.specs.Prelude.{ℕ, List, refl}
 use Rattle.std.specs.Coded.{Coded, coded_list, coded×, coded_ℕ, code_by}
-use Rattle.ot_plain.specs.Trees.{Ty, Named}
-use Rattle.ot_plain.specs.Codes.{coded_ty, coded_named}
+use Rattle.ot_logic.specs.Trees.{Ty, Named}
+use Rattle.ot_logic.specs.Codes.{coded_ty, coded_named}
 
 pub record TermTable : Type 0 where
   pub types : List (Ty ℕ)

@@ -1,12 +1,13 @@
 -- The table of terms over the table of types.
 use Rattle.std.specs.Prelude.{◌≡◌, ◌↔◌, ℕ, ◌<◌, ◌≤◌, max, Bool, true, List}
 use Rattle.std.specs.Prelude.{map, length, slice_get, slice_index_or, Some}
-use Rattle.ot_plain.specs.Trees.{Ty, TyVar, Variable, Tm, Named, NVar, NConst, NApp, NAbs}
-use Rattle.ot_plain.specs.Hol.{named_type, named_depth, nameless, is_shallow}
-use Rattle.ot_plain.specs.Naming.{numbers}
-use Rattle.ot_plain.specs.Bounds.{names_in, names_in_terms}
-use Rattle.ot_plain.specs.Table.{Extends, IsInjective}
-use Rattle.ot_plain.specs.Interned.{trees_of, IsSound}
+use Rattle.ot_logic.specs.Trees.{Ty, TyVar, Variable, Tm, Named, NVar, NConst, NApp, NAbs}
+use Rattle.ot_logic.specs.Hol.{is_shallow}
+use Rattle.ot_logic.specs.NamedTerms.{named_type, named_depth, nameless}
+use Rattle.ot_logic.specs.Naming.{numbers}
+use Rattle.ot_logic.specs.Bounds.{names_in, names_in_terms}
+use Rattle.ot_logic.specs.Table.{Extends, IsInjective}
+use Rattle.ot_logic.specs.Interned.{trees_of, IsSound}
 use Rattle.ot_type.specs.TypeTable.{type_at, IsTypeTable}
 use Rattle.ot_class.specs.Class.{class_at}
 use Rattle.ot_class.specs.Spelled.{spelled, IsOver}
@@ -14,7 +15,7 @@ use Rattle.ot_term.specs.Term.{TermTable}
 use Rattle.ot_term.specs.declared.term.VarKey.{VarKey}
 use Rattle.ot_term.specs.declared.term.TermNode.{TermNode}
 use Rattle.ot_term.specs.declared.term.TermNode.TheVariants.{Var, Const, App, Abs}
-use Rattle.ot_term.specs.declared.table.Beside.{Beside}
+use Rattle.ot_term.specs.declared.table.NodeInfo.{NodeInfo}
 
 -- the tree of a number of the table
 abbrev pub term_at : List (Named ℕ) → ℕ → Named ℕ
@@ -56,17 +57,17 @@ pub record IsClassOf (tys : List (Ty ℕ)) (cs : List (Tm ℕ)) (t : Named ℕ) 
   pub form : spelled tys (class_at cs c) ≡ nameless numbers t
 
 -- what stands beside a node
-pub record IsBeside (tys : List (Ty ℕ)) (cs : List (Tm ℕ)) (ts : List (Named ℕ)) (n : TermNode) (b : Beside) : Type
+pub record IsBeside (tys : List (Ty ℕ)) (cs : List (Tm ℕ)) (ts : List (Named ℕ)) (n : TermNode) (b : NodeInfo) : Type
     0 where
   pub suits : Suits tys (term_of tys ts n) b.ty b.depth
   pub class : IsClassOf tys cs (term_of tys ts n) b.class
 
 -- the trees of the entries
-abbrev pub terms_of : List (Ty ℕ) → List (TermNode × Beside) → List (Named ℕ)
+abbrev pub terms_of : List (Ty ℕ) → List (TermNode × NodeInfo) → List (Named ℕ)
 terms_of tys es = trees_of (term_of tys) es
 
 -- the numbers of the entries' classes
-abbrev pub classes_of : List (TermNode × Beside) → List ℕ
+abbrev pub classes_of : List (TermNode × NodeInfo) → List ℕ
 classes_of = map (λ e. e.1.class)
 
 -- each number of a type and of a term keeps its tree, and each term its class
@@ -98,11 +99,11 @@ pub record IsGrownTo (k : ℕ) (old new : TermTable) : Type 0 where
   pub table : IsTermTable new
 
 -- what the nodes keep, over the trees of the types and the nameless terms
-abbrev pub AreTermNodes : List (Ty ℕ) → List (Tm ℕ) → List (TermNode × Beside) → List (Named ℕ) → Type 0
+abbrev pub AreTermNodes : List (Ty ℕ) → List (Tm ℕ) → List (TermNode × NodeInfo) → List (Named ℕ) → Type 0
 AreTermNodes tys cs es ts = IsSound (term_of tys) (AreBelow (length tys)) (IsBeside tys cs) es ts
 
 -- what the fields keep, with what callers may know of the trees
-pub record IsTermSound (tys : List (Ty ℕ)) (cs : List (Tm ℕ)) (es : List (TermNode × Beside))
+pub record IsTermSound (tys : List (Ty ℕ)) (cs : List (Tm ℕ)) (es : List (TermNode × NodeInfo))
     (ts : List (Named ℕ)) : Type 0 where
   pub nodes : AreTermNodes tys cs es ts
   pub forms : IsInjective cs

@@ -2,7 +2,7 @@
 --     tree i       the tree of the number i
 --     Inside u t   u is the tree t, or stands inside it
 use Rattle.std.specs.Prelude.{◌≡◌, ℕ, ◌<◌, List, ◌⊎◌}
-use Rattle.ot_plain.specs.Lists.{IsMember}
+use Rattle.ot_logic.specs.Lists.{IsMember}
 use Rattle.ot_type.specs.Subtypes.{IsFalling}
 
 module _ {T : Type 0} (tree : ℕ → T) where

@@ -4,7 +4,7 @@ ghost use Rattle.std.specs.BTreeSet.{insert_key as insert_ordered};
 ghost use Rattle.indexmap.specs.IndexSet.{insert_key};
 
 use indexmap::IndexSet;
-use ot_plain::Memory;
+use ot_logic::Memory;
 use std::alloc::Global;
 use std::collections::BTreeSet;
 use std::hash::Hash;

@@ -2,10 +2,11 @@
 ghost use Rattle.std.specs.Prelude.{◌≡◌, ◌≢◌, ◌↔◌, ℕ, ◌<◌, ◌+◌, ◌-◌, ◌^◌, min, max, map, Some};
 ghost use Rattle.std.specs.Prelude.{Err, slice_get, length, IfOk, OnErr, false, Decides};
 ghost use Rattle.std.specs.List.{All};
-ghost use Rattle.ot_plain.specs.Lists.{IsMember, AreDistinct};
-ghost use Rattle.ot_plain.specs.Trees.{Ty, Variable, NVar, NConst, NApp, NAbs};
-ghost use Rattle.ot_plain.specs.Hol.{fun_ty, named_type, nameless, IsClosed, IsFree, depth_ty, depth_limit, inst};
-ghost use Rattle.ot_plain.specs.Naming.{numbers};
+ghost use Rattle.ot_logic.specs.Lists.{IsMember, AreDistinct};
+ghost use Rattle.ot_logic.specs.Trees.{Ty, Variable, NVar, NConst, NApp, NAbs};
+ghost use Rattle.ot_logic.specs.Hol.{fun_ty, IsClosed, IsFree, depth_ty, depth_limit, inst};
+ghost use Rattle.ot_logic.specs.NamedTerms.{named_type, nameless};
+ghost use Rattle.ot_logic.specs.Naming.{numbers};
 ghost use Rattle.ot_type.specs.TypeTable.{type_at, images};
 ghost use Rattle.ot_term.specs.Term.{TermTable};
 ghost use Rattle.ot_term.specs.TermTable.{term_at, term_of, variable_of, is_within_limit};
@@ -14,7 +15,7 @@ ghost use Rattle.ot_term.specs.TermTable.{AreBelow, IsGrownTo, IsTermTable};
 use crate::steps::Steps;
 use crate::table::Terms;
 use crate::term::{TermFault, TermId, TermNode, VarKey};
-use ot_plain::{Memory, NameId};
+use ot_logic::{Memory, NameId};
 use ot_type::{TableFault, TypeId, TypeSubst};
 use std::alloc::Global;
 

@@ -1,11 +1,12 @@
 //! The table: its nodes, what stands beside them, and how they are read.
 ghost use Rattle.std.specs.Prelude.{◌≡◌, ◌<◌, ◌≤◌, max, [], Some, slice_get};
 ghost use Rattle.std.specs.Prelude.{slice_index_or, length, IfOk, IfSome, OnErr, Decides};
-ghost use Rattle.ot_plain.specs.Table.{Extends, IsInjective};
-ghost use Rattle.ot_plain.specs.Trees.{NVar};
-ghost use Rattle.ot_plain.specs.Hol.{named_type, named_depth, depth_limit};
-ghost use Rattle.ot_plain.specs.Naming.{numbers};
-ghost use Rattle.ot_plain.specs.Bounds.{bound_named, names_in_terms};
+ghost use Rattle.ot_logic.specs.Table.{Extends, IsInjective};
+ghost use Rattle.ot_logic.specs.Trees.{NVar};
+ghost use Rattle.ot_logic.specs.Hol.{depth_limit};
+ghost use Rattle.ot_logic.specs.NamedTerms.{named_type, named_depth};
+ghost use Rattle.ot_logic.specs.Naming.{numbers};
+ghost use Rattle.ot_logic.specs.Bounds.{bound_named, names_in_terms};
 ghost use Rattle.ot_type.specs.TypeTable.{type_at};
 ghost use Rattle.ot_term.specs.TermTable.{classes_of};
 ghost use Rattle.ot_term.specs.Classing.{form_with, nameless_form, IsFormBelow, PartsBelow};
@@ -21,14 +22,14 @@ use crate::term::{TermId, TermNode, VarKey};
 use indexmap::IndexMap;
 use indexmap::map::Entry;
 use ot_class::{ClassId, Classes};
-use ot_plain::{Memory, NameId};
+use ot_logic::{Memory, NameId};
 use ot_type::{TypeId, Types};
 use std::alloc::Global;
 use std::marker::Model;
 
 /// What stands beside a node: the number of its type, its depth, and the number of its nameless form.
 #[derive(Clone, Copy)]
-struct Beside {
+struct NodeInfo {
     ty: TypeId,
     depth: u32,
     class: ClassId,
@@ -49,7 +50,7 @@ pub struct Terms {
     types: Types,
     // Nameless forms over the numbers of the types; there may be more than the terms have.
     classes: Classes,
-    nodes: IndexMap<TermNode, Beside>,
+    nodes: IndexMap<TermNode, NodeInfo>,
     // By types, where the constant `=` at a type may stand: what is found is looked at before it is used.
     equalities: IndexMap<TypeId, TermId>,
 }
@@ -187,7 +188,7 @@ impl Terms {
             Entry::Vacant(entry) => {
                 let class = class_of(&mut self.classes, form)?;
                 let index = entry.index() as u32;
-                entry.insert(Beside { ty, depth, class });
+                entry.insert(NodeInfo { ty, depth, class });
                 Ok(TermId(index))
             }
         }
@@ -195,7 +196,7 @@ impl Terms {
 }
 
 /// A node with the classes that stand beside its parts.
-fn with_classes(nodes: &IndexMap<TermNode, Beside>, node: &TermNode) -> Form
+fn with_classes(nodes: &IndexMap<TermNode, NodeInfo>, node: &TermNode) -> Form
     requires parts { PartsBelow (length nodes.now.entries) node.now }
     ensures { result ≡ form_with (classes_of nodes.now.entries) node.now }
 {
@@ -223,7 +224,7 @@ fn class_of(classes: &mut Classes, form: Form) -> Result<ClassId, Memory>
 }
 
 /// The class beside a node.
-fn class_beside(nodes: &IndexMap<TermNode, Beside>, id: TermId) -> ClassId
+fn class_beside(nodes: &IndexMap<TermNode, NodeInfo>, id: TermId) -> ClassId
     requires { id < length nodes.now.entries }
     ensures { result ≡ slice_index_or (classes_of nodes.now.entries) id 0 }
 {

@@ -2,7 +2,7 @@
 ghost use Rattle.std.specs.Prelude.{◌≡◌};
 ghost use Rattle.ot_term.specs.NodeHash.{node_writes, node_writes-alike};
 
-use ot_plain::{Memory, NameId};
+use ot_logic::{Memory, NameId};
 use ot_type::{TableFault, TypeId};
 use std::hash::{Hash, Hasher};
 use std::marker::Model;

@@ -8,7 +8,7 @@ use Rattle.std.proofs.lemmas.Cmp.{nat_list_cmp_total, tied_itself}
 use Rattle.std.proofs.lemmas.Map.Text.{is_eq-slice_cmp}
 use Rattle.std.proofs.lemmas.Slice.Eq.{bytes_eq-Decides}
 use Rattle.std.proofs.Common.{refl, sym, ◌∙◌, ap, subst, inl, inr}
-use Rattle.ot_plain.specs.Lists.{IsMember, IsPart, IsSameSet}
+use Rattle.ot_logic.specs.Lists.{IsMember, IsPart, IsSameSet}
 use Rattle.ot_text.specs.Texts.{order, ascending}
 
 pub equal-is : (x y : List ℕ) → order x y ≡ Equal → x ≡ y

@@ -2,9 +2,9 @@
 -- these bytes.
 use Rattle.std.specs.Prelude.{◌≡◌, ℕ, ◌==◌, Bool, true, false, cond, ◌||◌, List, [], ◌∷◌, ◌++◌, codes}
 use Rattle.std.proofs.Common.{refl, sym, ap, subst, append_assoc}
-use Rattle.ot_plain.specs.Names.{Name}
-use Rattle.ot_plain.specs.Trees.{Ty, Variable, Tm, Free, Con, Bound, App, Abs}
-use Rattle.ot_plain.specs.Naming.{names}
+use Rattle.ot_logic.specs.Names.{Name}
+use Rattle.ot_logic.specs.Trees.{Ty, Variable, Tm, Free, Con, Bound, App, Abs}
+use Rattle.ot_logic.specs.Naming.{names}
 use Rattle.ot_text.specs.Texts.{name_text, number_text, ty_text, is_equation, tm_text, argument_text}
 use Rattle.ot_text.proofs.Spelling.{name_onto, name-onto, name-inj, apart, tail-same}
 use Rattle.ot_text.proofs.TypeLaw.{ty_onto, ty-onto, ty-inj}

@@ -12,14 +12,14 @@ use Rattle.std.proofs.Common.{refl, sym, ◌∙◌, ap, inl, inr, arith, get_or,
 use Rattle.std.proofs.Math.Seq.{take-suc}
 use Rattle.std.proofs.lemmas.List.{take-append-drop, length-map, get_or-map}
 use Rattle.std.proofs.lemmas.Simd.{map-map}
-use Rattle.ot_plain.specs.Lists.{IsMember}
-use Rattle.ot_plain.specs.Names.{Name}
-use Rattle.ot_plain.specs.Trees.{Sequent}
+use Rattle.ot_logic.specs.Lists.{IsMember}
+use Rattle.ot_logic.specs.Names.{Name}
+use Rattle.ot_logic.specs.Trees.{Sequent}
 use Rattle.ot_laws.proofs.Sets.{same_set-swap}
 use Rattle.ot_text.specs.Texts.{tm_text, order, ascending, further_hyps, hyps_text, sequent_text}
 use Rattle.ot_text.specs.Gathered.{bytes_in}
 use Rattle.ot_text.proofs.Ascending.{ascending-same, ascending-member}
-use Rattle.ot_plain.proofs.Members.{IsMember-get_or}
+use Rattle.ot_logic.proofs.Members.{IsMember-get_or}
 
 -- ---- an insertion into a set of vectors is one into the list of their bytes
 abbrev by_bytes : Vec ℕ → Vec ℕ → Ordering

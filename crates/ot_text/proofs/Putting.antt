@@ -4,7 +4,7 @@ use Rattle.std.specs.Prelude.{nat_le, List, [], ◌∷◌, ◌++◌, length, Som
 use Rattle.std.proofs.Common.{refl, sym, ◌∙◌, ap, subst, inl, inr, arith, append-nil, drop, drop-cons, get_or}
 use Rattle.std.proofs.Math.ListN.{drop_of_length-le}
 use Rattle.std.proofs.lemmas.Bool.{le-leb, lt-leb}
-use Rattle.ot_plain.proofs.Putting.{put-twice}
+use Rattle.ot_logic.proofs.Putting.{put-twice}
 use Rattle.ot_text.specs.declared.fault.PrintFault.{PrintFault}
 use Rattle.ot_text.specs.declared.fault.PrintFault.TheVariants.{TooLarge, Memory}
 use Rattle.ot_text.specs.Pages.{Printed, Bytes, Full, NoMemory, put, is_stopped, IsPut, HasRoom, stopped}

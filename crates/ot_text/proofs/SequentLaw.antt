@@ -1,11 +1,11 @@
 -- Sequents: one text is the text of one set of hypotheses and one conclusion.
 use Rattle.std.specs.Prelude.{◌≡◌, ℕ, true, List, [], ◌∷◌, ◌++◌, map}
 use Rattle.std.proofs.Common.{refl, sym, ◌∙◌, ap, subst, append_assoc, append-nil, inl, inr}
-use Rattle.ot_plain.specs.Names.{Name}
-use Rattle.ot_plain.specs.Trees.{Tm, Sequent}
-use Rattle.ot_plain.specs.Naming.{names}
-use Rattle.ot_plain.specs.Hol.{bool_ty, HasType, IsSequent}
-use Rattle.ot_plain.specs.Lists.{IsMember, IsPart, IsSameSet}
+use Rattle.ot_logic.specs.Names.{Name}
+use Rattle.ot_logic.specs.Trees.{Tm, Sequent}
+use Rattle.ot_logic.specs.Naming.{names}
+use Rattle.ot_logic.specs.Hol.{bool_ty, HasType, IsSequent}
+use Rattle.ot_logic.specs.Lists.{IsMember, IsPart, IsSameSet}
 use Rattle.ot_laws.proofs.Sets.{all-member}
 use Rattle.ot_text.specs.Texts.{tm_text, ascending, further_hyps, hyps_text, sequent_text}
 use Rattle.ot_text.proofs.Spelling.{apart}

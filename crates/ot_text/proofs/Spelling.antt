@@ -2,8 +2,8 @@
 use Rattle.std.specs.Prelude.{◌≡◌, ℕ, ◌==◌, Bool, true, false, cond, ◌||◌, if◌then◌else◌, List, [], ◌∷◌, ◌++◌, map}
 use Rattle.std.specs.List.{flat_map}
 use Rattle.std.proofs.Common.{refl, sym, ◌∙◌, ap, subst, append_assoc, eq-eqb}
-use Rattle.ot_plain.specs.Names.{Name, Plain, Escaped, item_of, item_text, further_text}
-use Rattle.ot_plain.proofs.Spelling.{joined-further}
+use Rattle.ot_logic.specs.Names.{Name, Plain, Escaped, item_of, item_text, further_text}
+use Rattle.ot_logic.proofs.Spelling.{joined-further}
 use Rattle.ot_text.specs.Texts.{name_text}
 
 -- a quote, a backslash and a dot have a backslash before them

@@ -2,10 +2,10 @@
 use Rattle.std.specs.Prelude.{◌≡◌, ℕ, ◌==◌, Bool, true, false, cond, ◌||◌, List}
 use Rattle.std.specs.Prelude.{[], ◌∷◌, ◌++◌, codes, Option, Some, None, is_some}
 use Rattle.std.proofs.Common.{refl, sym, ◌∙◌, ap, subst, append_assoc}
-use Rattle.ot_plain.specs.Names.{Name}
-use Rattle.ot_plain.specs.Trees.{Ty, Tys, TyVar, TyOp, NoTys, MoreTys}
-use Rattle.ot_plain.specs.Naming.{names}
-use Rattle.ot_plain.specs.Hol.{as_fun_ty}
+use Rattle.ot_logic.specs.Names.{Name}
+use Rattle.ot_logic.specs.Trees.{Ty, Tys, TyVar, TyOp, NoTys, MoreTys}
+use Rattle.ot_logic.specs.Naming.{names}
+use Rattle.ot_logic.specs.Hol.{as_fun_ty}
 use Rattle.ot_laws.proofs.Tests.{tells_names}
 use Rattle.ot_laws.proofs.Typing.{as_fun_ty-some}
 use Rattle.ot_text.specs.Texts.{name_text, is_function, ty_text, spaced_text}

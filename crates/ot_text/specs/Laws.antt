@@ -1,10 +1,10 @@
 -- What one text says.
 use Rattle.std.specs.Prelude.{◌≡◌, ℕ, Bool, true, not, ◌&&◌, nat_le, List, [], ◌∷◌, ◌++◌, Some}
-use Rattle.ot_plain.specs.Lists.{IsSameSet}
-use Rattle.ot_plain.specs.Names.{Name}
-use Rattle.ot_plain.specs.Naming.{names}
-use Rattle.ot_plain.specs.Trees.{Ty, Tm, Sequent}
-use Rattle.ot_plain.specs.Hol.{type_in, IsSequent}
+use Rattle.ot_logic.specs.Lists.{IsSameSet}
+use Rattle.ot_logic.specs.Names.{Name}
+use Rattle.ot_logic.specs.Naming.{names}
+use Rattle.ot_logic.specs.Trees.{Ty, Tm, Sequent}
+use Rattle.ot_logic.specs.Hol.{type_in, IsSequent}
 use Rattle.ot_text.specs.Texts.{ty_text, tm_text, sequent_text}
 
 -- two types with one text are equal

@@ -1,9 +1,9 @@
 -- The printed texts of definitions and of a summary's sections, over names.
 use Rattle.std.specs.Prelude.{Bool, true, false, List, [], ◌∷◌, ◌++◌, length, codes, ℕ}
-use Rattle.ot_plain.specs.Names.{Name}
-use Rattle.ot_plain.specs.Naming.{names}
-use Rattle.ot_plain.specs.Trees.{Variable, Free, Sequent, Definition, ConDef, ListDef, TyDef}
-use Rattle.ot_plain.specs.Hol.{theorems}
+use Rattle.ot_logic.specs.Names.{Name}
+use Rattle.ot_logic.specs.Naming.{names}
+use Rattle.ot_logic.specs.Trees.{Variable, Free, Sequent, Definition, ConDef, ListDef, TyDef}
+use Rattle.ot_logic.specs.Hol.{theorems}
 use Rattle.ot_text.specs.Texts.{name_text, number_text, tm_text, sequent_text}
 
 -- ---- definitions: what is defined, from what, and the theorems

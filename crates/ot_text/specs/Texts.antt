@@ -5,11 +5,11 @@ use Rattle.std.specs.BTreeSet.{insert_key}
 use Rattle.std.specs.Ordering.{nat_cmp}
 use Rattle.std.specs.Cmp.Lexicographic.{slice_cmp}
 use Rattle.std.specs.declared.cmp.Ordering.{Ordering}
-use Rattle.ot_plain.specs.Names.{Name, spelled}
-use Rattle.ot_plain.specs.Naming.{names}
-use Rattle.ot_plain.specs.Trees.{Alphabet, Ty, Tys, TyVar, TyOp, NoTys, MoreTys}
-use Rattle.ot_plain.specs.Trees.{Tm, Free, Con, Bound, App, Abs, Sequent}
-use Rattle.ot_plain.specs.Hol.{as_fun_ty, as_equation}
+use Rattle.ot_logic.specs.Names.{Name, spelled}
+use Rattle.ot_logic.specs.Naming.{names}
+use Rattle.ot_logic.specs.Trees.{Alphabet, Ty, Tys, TyVar, TyOp, NoTys, MoreTys}
+use Rattle.ot_logic.specs.Trees.{Tm, Free, Con, Bound, App, Abs, Sequent}
+use Rattle.ot_logic.specs.Hol.{as_fun_ty, as_equation}
 
 -- a name's spelling; a list without components, which is no name, has a mark of its own
 abbrev pub name_text : Name → List ℕ

@@ -1,6 +1,6 @@
 //! A page on which a text is put, piece by piece.
 ghost use Rattle.std.specs.Prelude.{◌≡◌, [], Some, OnOk, OnErr, Err};
-ghost use Rattle.ot_plain.specs.Names.{spelled};
+ghost use Rattle.ot_logic.specs.Names.{spelled};
 ghost use Rattle.ot_text.specs.Texts.{number_text};
 ghost use Rattle.ot_text.specs.Pages.{Bytes, Full, IsPut, is_stopped as is_stopped_at};
 ghost use Rattle.ot_text.specs.Pages.{stopped, HasRoom, IsCopied, printed};
@@ -8,7 +8,7 @@ ghost use Rattle.ot_text.specs.Separated.{separator as separator_text};
 
 use crate::fault::PrintFault;
 use itoa::Buffer;
-use ot_plain::Name;
+use ot_logic::Name;
 use std::alloc::Global;
 
 /// A text in the making. After a fault nothing more is put on it.

@@ -12,8 +12,8 @@ use Rattle.std.proofs.lemmas.Option.{none-some, same_Some, cond_some, option_and
 use Rattle.std.proofs.lemmas.Slice.Eq.{bytes_eq-Decides}
 use Rattle.std.proofs.lemmas.Bool.{and_parts}
 use Rattle.ot_lines.specs.Pieces.{is_blank, trim_front}
-use Rattle.ot_plain.specs.Names.{Name}
-use Rattle.ot_plain.specs.Reading.{Reading, Done, Unended, Trails, read_from, push, dot, name_read, done_name}
+use Rattle.ot_logic.specs.Names.{Name}
+use Rattle.ot_logic.specs.Reading.{Reading, Done, Unended, Trails, read_from, push, dot, name_read, done_name}
 use Rattle.ot_theory.specs.declared.interpretation.SymbolWord.{SymbolWord}
 use Rattle.ot_theory.specs.declared.interpretation.SymbolWord.TheVariants.{Con, TyOp}
 use Rattle.ot_theory.specs.Interpretations.{◌>>=◌, AreBlanks, IsQuotedName, IsInterpretation, OneInterpretation}

@@ -17,7 +17,7 @@ use Rattle.std.proofs.lemmas.Result.{on_ok_weaker}
 use Rattle.std.proofs.lemmas.Bool.{not-true}
 use Rattle.ot_theory.proofs.Steps.{bind_ok}
 use Rattle.ot_theory.specs.declared.symbols.Symbols.{Symbols}
-use Rattle.ot_plain.proofs.Results.{same_Ok}
+use Rattle.ot_logic.proofs.Results.{same_Ok}
 
 pub any_map : {X Y : Type 0} (f : X → Y) (p : Y → Bool) (xs : List X)
     → list_any p (map f xs) ≡ list_any (λ x. p (f x)) xs

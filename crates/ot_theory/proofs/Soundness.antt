@@ -8,7 +8,7 @@ use Rattle.std.specs.Str.{bytes_eq}
 use Rattle.std.proofs.lemmas.List.{map-append}
 use Rattle.std.proofs.lemmas.Slice.Eq.{bytes_eq-Decides}
 use Rattle.ot_lines.specs.Pieces.{pieces}
-use Rattle.ot_plain.specs.Lists.{IsMember, AreDistinct}
+use Rattle.ot_logic.specs.Lists.{IsMember, AreDistinct}
 use Rattle.ot_theory.specs.Lines.{LineText, lines_of}
 use Rattle.ot_theory.specs.Values.{key_of}
 use Rattle.ot_theory.specs.Theory.{TagText, BlockText, TheoryText, State, has_block}
@@ -21,7 +21,7 @@ use Rattle.ot_theory.proofs.Statements.{all_front, all_last, distinct_last, both
 use Rattle.ot_theory.proofs.Statements.{second_false, Allowed, allowed, block_right}
 use Rattle.ot_theory.proofs.LineForms.{IsPlainLine, plain_lines, value_plain}
 use Rattle.ot_theory.proofs.Steps.{bind_ok, tag_at, OnSteps, kept, ended}
-use Rattle.ot_plain.proofs.Elements.{AllByRecursion-append}
+use Rattle.ot_logic.proofs.Elements.{AllByRecursion-append}
 
 abbrev pub all_blocks : State → List BlockText
 all_blocks s = s.blocks ++ option_to_list s.open_block

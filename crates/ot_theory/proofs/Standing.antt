@@ -16,7 +16,7 @@ use Rattle.ot_theory.proofs.Steps.{bind_ok, tag_at, OnSteps, by_step, first_line
 use Rattle.ot_theory.proofs.Soundness.{all_blocks}
 use Rattle.ot_theory.proofs.Trims.{newlines-append, one_newline, TextIn, text_in}
 use Rattle.ot_theory.proofs.LineForms.{FormIn, form_in}
-use Rattle.ot_plain.proofs.Results.{same_Ok}
+use Rattle.ot_logic.proofs.Results.{same_Ok}
 
 -- ---- lines
 

@@ -7,9 +7,9 @@ use Rattle.std.proofs.lemmas.List.Elements.{filter_map-append}
 use Rattle.std.proofs.lemmas.List.Sums.{sum_by-append}
 use Rattle.std.proofs.lemmas.Option.{none-some, same_Some}
 use Rattle.std.proofs.lemmas.Bool.{not-true}
-use Rattle.ot_plain.specs.Answers.{unless, some_or}
-use Rattle.ot_plain.specs.Lists.{IsMember, AreDistinct}
-use Rattle.ot_plain.specs.Names.{same_name-Decides}
+use Rattle.ot_logic.specs.Answers.{unless, some_or}
+use Rattle.ot_logic.specs.Lists.{IsMember, AreDistinct}
+use Rattle.ot_logic.specs.Names.{same_name-Decides}
 use Rattle.ot_theory.specs.declared.keys.Key.{Key}
 use Rattle.ot_theory.specs.declared.keys.Key.TheVariants.{Import, Article, Package, Interpret, Other}
 use Rattle.ot_theory.specs.declared.interpretation.SymbolWord.{SymbolWord}
@@ -25,8 +25,8 @@ use Rattle.ot_theory.specs.Sound.{IsRightValue, IsRightBlock}
 use Rattle.ot_theory.proofs.Interpreting.{bind_some, one_interpretation}
 use Rattle.ot_theory.proofs.Paths.{tells_paths}
 use Rattle.ot_theory.proofs.Steps.{bind_ok}
-use Rattle.ot_plain.proofs.Elements.{AllByRecursion-append}
-use Rattle.ot_plain.proofs.Results.{some_or-ok, unless-ok}
+use Rattle.ot_logic.proofs.Elements.{AllByRecursion-append}
+use Rattle.ot_logic.proofs.Results.{some_or-ok, unless-ok}
 
 -- ---- lists with one element more
 

@@ -3,7 +3,7 @@ use Rattle.std.proofs.Common.{◌≡◌, ℕ, List, [], ◌∷◌, ◌++◌, tru
 use Rattle.std.specs.Prelude.{Option, Result, Ok, Err, not, codes, IfOk}
 use Rattle.std.specs.List.{AllByRecursion}
 use Rattle.std.proofs.lemmas.Bool.{not-true}
-use Rattle.ot_plain.specs.Answers.{◌>>=◌, unless}
+use Rattle.ot_logic.specs.Answers.{◌>>=◌, unless}
 use Rattle.ot_theory.specs.Lines.{LineText}
 use Rattle.ot_theory.specs.Forms.{LineForm, Statement, Opening, Closing, NoForm, form}
 use Rattle.ot_theory.specs.Theory.{TagText, BlockText, TheoryText, State, has_block, statement_allowed}
@@ -11,7 +11,7 @@ use Rattle.ot_theory.specs.Theory.{statement_added, with_statement, line_outside
 use Rattle.ot_theory.specs.Theory.{line_step, at_line, read_lines, finish, finish_at}
 use Rattle.ot_theory.specs.declared.fault.TheoryFault.{TheoryFault}
 use Rattle.ot_theory.specs.declared.fault.TheoryFault.TheVariants.{DuplicateBlock, BadBlock, BadLine, NoMain}
-use Rattle.ot_plain.proofs.Results.{same_Ok, unless-ok}
+use Rattle.ot_logic.proofs.Results.{same_Ok, unless-ok}
 
 pub err_ok : {A E : Type 0} (e : E) (x : A) → ◌≡◌ {A = Result A E} (Err e) (Ok x) → ⊥
 err_ok e x h = cc

@@ -4,7 +4,7 @@ use Rattle.std.specs.HashSet.{keys}
 use Rattle.std.specs.List.{list_any}
 use Rattle.std.specs.Option.{option_map, option_to_list}
 use Rattle.std.specs.Str.{bytes_eq}
-use Rattle.ot_plain.specs.Names.{same_name}
+use Rattle.ot_logic.specs.Names.{same_name}
 use Rattle.ot_theory.specs.Theory.{TagText, BlockText, State, has_block, has_renaming}
 use Rattle.ot_theory.specs.Interpretations.{Symbol}
 use Rattle.ot_theory.specs.Answers.{block_of, blocks_of, tags_of}

@@ -1,7 +1,7 @@
 -- What holds of each theory that a text writes.
 use Rattle.std.specs.Prelude.{◌≡◌, ◌≤◌, List, ℕ, true, codes, map, count_by}
 use Rattle.std.specs.List.{AllByRecursion, filter_map}
-use Rattle.ot_plain.specs.Lists.{IsMember, AreDistinct}
+use Rattle.ot_logic.specs.Lists.{IsMember, AreDistinct}
 use Rattle.ot_theory.specs.Forms.{is_identifier}
 use Rattle.ot_theory.specs.Values.{key_of, is_source, IsPath}
 use Rattle.ot_theory.specs.Interpretations.{IsInterpretation}

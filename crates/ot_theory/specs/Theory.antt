@@ -4,7 +4,7 @@ use Rattle.std.specs.Prelude.{codes, Option, Some, None, Result, Ok, Err}
 use Rattle.std.specs.List.{list_any}
 use Rattle.std.specs.Str.{bytes_eq}
 use Rattle.ot_lines.specs.Pieces.{pieces}
-use Rattle.ot_plain.specs.Answers.{◌>>=◌, unless, some_or}
+use Rattle.ot_logic.specs.Answers.{◌>>=◌, unless, some_or}
 use Rattle.ot_theory.specs.Lines.{LineText, lines_of}
 use Rattle.ot_theory.specs.Forms.{LineForm, Statement, Opening, Closing, NoForm, form, is_identifier}
 use Rattle.ot_theory.specs.Values.{key_of, is_source, is_path}

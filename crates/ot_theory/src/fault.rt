@@ -2,7 +2,7 @@ ghost use Rattle.std.specs.Prelude.{◌≡◌};
 ghost use Rattle.ot_theory.specs.Reading.{refused};
 ghost use Rattle.ot_theory.specs.declared.fault.Refusal.TheVariants as refusals;
 
-use ot_plain::Memory as NoMemory;
+use ot_logic::Memory as NoMemory;
 use std::alloc::AllocFailed;
 
 /// What is wrong with a line of a theory file, by the theory file format.

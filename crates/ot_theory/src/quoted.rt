@@ -2,7 +2,7 @@ ghost use Rattle.std.specs.Prelude.{◌≡◌, ◌≤◌, length, IfSome};
 ghost use Rattle.ot_theory.specs.Interpretations.{quoted_front, quote_len};
 ghost use Rattle.ot_theory.specs.Quoting.{pair_value, front_len, IsShorter};
 
-use ot_plain::Name;
+use ot_logic::Name;
 
 /// The most bytes of a quoted name, its quotes counted.
 const QUOTED_BYTES: usize = 65535;

@@ -1,7 +1,7 @@
 ghost use Rattle.std.specs.Prelude.{◌≡◌, ◌∷◌, ◌++◌, ◌||◌, [], List, Some, IfOk, OnOk};
 ghost use Rattle.std.specs.List.{list_any};
-ghost use Rattle.ot_plain.specs.Answers.{unless};
-ghost use Rattle.ot_plain.specs.Reading.{name_read};
+ghost use Rattle.ot_logic.specs.Answers.{unless};
+ghost use Rattle.ot_logic.specs.Reading.{name_read};
 ghost use Rattle.ot_theory.specs.Theory.{TagText, statement_added, statement_allowed};
 ghost use Rattle.ot_theory.specs.Theory.{source_allowed, value_allowed, has_source, is_symbol};
 ghost use Rattle.ot_theory.specs.Values.{key_of, is_source};
@@ -19,7 +19,7 @@ use crate::reading::OpenBlock;
 use crate::symbols::Symbols;
 use crate::theory::Tag;
 use crate::values::is_path;
-use ot_plain::{Memory, Name, NameFault};
+use ot_logic::{Memory, Name, NameFault};
 use std::alloc::Global;
 
 /// Adds a statement to the open block.

@@ -3,7 +3,7 @@ ghost use Rattle.ot_theory.specs.Interpretations.{Symbol, same_symbol};
 ghost use Rattle.ot_theory.specs.Reading.{has_symbol, HoldsSymbols};
 
 use crate::interpretation::SymbolWord;
-use ot_plain::{Memory, Name};
+use ot_logic::{Memory, Name};
 use std::alloc::Global;
 use std::collections::HashSet;
 

@@ -4,9 +4,9 @@ use Rattle.std.proofs.Common.{slice_get, Some, pos, refl, sym, ap, subst, arith}
 use Rattle.std.specs.List.{All}
 use Rattle.std.proofs.lemmas.Option.{get_or_from_slice_get, slice_get-get_or}
 use Rattle.std.proofs.lemmas.List.Elements.{All-head, All-tail}
-use Rattle.ot_plain.specs.Lists.{IsMember}
-use Rattle.ot_plain.specs.Table.{IsInjective}
-use Rattle.ot_plain.proofs.InternedLemmas.{entry_at}
+use Rattle.ot_logic.specs.Lists.{IsMember}
+use Rattle.ot_logic.specs.Table.{IsInjective}
+use Rattle.ot_logic.proofs.InternedLemmas.{entry_at}
 use Rattle.ot_trace.specs.Origins.{Origin, Number, Named, Make, Define, Outcome, listed}
 use Rattle.ot_trace.specs.Trace.{origin_at, origins_at, origin_of, IsBelow}
 use Rattle.ot_trace.specs.Trace.{HasSymbols, IsPartOf, IsStepTable, IsTrace}

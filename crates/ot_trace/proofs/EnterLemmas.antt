@@ -4,7 +4,7 @@ use Rattle.std.proofs.Common.{Some, length, slice_get, position, refl, sym, ap, 
 use Rattle.std.proofs.lemmas.Option.{slice_get_within}
 use Rattle.indexmap.specs.IndexMap.{IndexMap, keys, insert_entry, insert_index, set_value_at}
 use Rattle.indexmap.proofs.MapLemmas.{Found-position, Missing-position, insert_entry-first}
-use Rattle.ot_plain.proofs.InternedLemmas.{found, pushed}
+use Rattle.ot_logic.proofs.InternedLemmas.{found, pushed}
 use Rattle.ot_trace.specs.Origins.{Origin}
 use Rattle.ot_trace.specs.Trace.{origin_of, origins, IsBelow, HasSymbols, IsTrace}
 use Rattle.ot_trace.specs.declared.step.Step.{Step}

@@ -4,8 +4,8 @@ use Rattle.std.proofs.Common.{List, [], ◌∷◌, ◌++◌, length, map, slice_
 use Rattle.std.proofs.Common.{nat_eq, eqb-true, eq-eqb, pos, refl, sym, ap, subst, ◌∙◌, arith}
 use Rattle.std.specs.Map.{lookup}
 use Rattle.std.proofs.lemmas.Option.{none-some, same_Some, get_or_from_slice_get}
-use Rattle.ot_plain.specs.Lists.{IsMember}
-use Rattle.ot_plain.specs.Table.{IsInjective}
+use Rattle.ot_logic.specs.Lists.{IsMember}
+use Rattle.ot_logic.specs.Table.{IsInjective}
 use Rattle.ot_trace.specs.Origins.{Origin, Number, symbols}
 use Rattle.ot_trace.specs.Trace.{origin_at, origin_of, IsBelow, HasSymbols}
 use Rattle.ot_trace.specs.Walk.{Notes, IsNoted, AreDefiners, symbol_numbers}
@@ -14,7 +14,7 @@ use Rattle.ot_trace.specs.declared.step.Step.TheVariants as steps
 use Rattle.ot_trace.proofs.TraceLemmas.{origin_at-injective}
 use Rattle.ot_trace.proofs.WalkLemmas.{taken}
 use Rattle.ot_trace.proofs.EdgeLemmas.{map-at, map-from, all-member}
-use Rattle.ot_plain.proofs.Members.{IsMember-last, IsMember-left, IsMember-push}
+use Rattle.ot_logic.proofs.Members.{IsMember-last, IsMember-left, IsMember-push}
 
 pub not-false : (b : Bool) → false ≡ not b → b ≡ true
 not-false true p = refl

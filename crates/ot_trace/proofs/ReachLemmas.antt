@@ -3,14 +3,14 @@ use Rattle.std.proofs.Common.{◌≡◌, ℕ, zero, suc, ◌+◌, ◌<◌, ◌�
 use Rattle.std.proofs.Common.{length, map, replicate, refl, sym, ap, subst, ◌∙◌, true≢false, arith, length-append}
 use Rattle.std.specs.List.{All}
 use Rattle.std.proofs.lemmas.Option.{none-some, same_Some, slice_get_within}
-use Rattle.ot_plain.specs.Lists.{IsMember}
+use Rattle.ot_logic.specs.Lists.{IsMember}
 use Rattle.ot_trace.specs.Origins.{Origin, Outcome}
 use Rattle.ot_trace.specs.Trace.{origin_at, IsStepTable, IsPartOf}
 use Rattle.ot_trace.specs.Reach.{IsMarked, IsReached, Root, Operand, OfTheorem, OfSymbol, MarksReached}
 use Rattle.ot_trace.specs.Walk.{Visits, StepLeadsTo, unmarked}
 use Rattle.ot_trace.proofs.TraceLemmas.{origin_at-injective}
 use Rattle.ot_trace.proofs.EdgeLemmas.{map-at, map-from, all-member}
-use Rattle.ot_plain.proofs.Members.{IsMember-last, IsMember-left, IsMember-push}
+use Rattle.ot_logic.proofs.Members.{IsMember-last, IsMember-left, IsMember-push}
 
 pub empty-from : (xs : List ℕ) → length xs ≡ 0 → xs ≡ []
 empty-from [] p = refl

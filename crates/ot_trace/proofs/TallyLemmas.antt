@@ -10,7 +10,7 @@ use Rattle.std.proofs.lemmas.List.Elements.{All-head, All-tail}
 use Rattle.std.proofs.lemmas.Bool.Decides.{nat_tests, eqb_tells, same_from_decides}
 use Rattle.std.proofs.lemmas.Grind.{flat_map-append}
 use Rattle.std.proofs.lemmas.Option.{get_or_from_slice_get}
-use Rattle.ot_plain.specs.Table.{IsInjective}
+use Rattle.ot_logic.specs.Table.{IsInjective}
 use Rattle.ot_trace.specs.Origins.{Origin, Number, listed, operands}
 use Rattle.ot_trace.specs.Trace.{origin_at, origins_at, origin_of, IsBelow, operand_numbers}
 use Rattle.ot_trace.specs.Uses.{count, marked_from, AreCounts}

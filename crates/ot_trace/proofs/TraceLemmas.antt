@@ -6,17 +6,17 @@ use Rattle.std.specs.Cmp.Lexicographic.{pointwise}
 use Rattle.std.proofs.lemmas.Bool.Decides.{Decides-int_eq}
 use Rattle.std.proofs.lemmas.List.Elements.{All-head, All-tail}
 use Rattle.std.proofs.lemmas.Slice.Eq.{bytes_eq-Decides}
-use Rattle.ot_plain.specs.Table.{Extends, IsInjective}
+use Rattle.ot_logic.specs.Table.{Extends, IsInjective}
 use Rattle.ot_trace.specs.Origins.{Origin, Number, Named, Make, Define, Outcome, symbols}
-use Rattle.ot_plain.specs.Interned.{NodeLaws}
-use Rattle.ot_plain.proofs.TableLemmas.{get_or-Extends, get_or-IsInjective}
+use Rattle.ot_logic.specs.Interned.{NodeLaws}
+use Rattle.ot_logic.proofs.TableLemmas.{get_or-Extends, get_or-IsInjective}
 use Rattle.ot_trace.specs.Trace.{origin_at, origins_at, origin_of, IsBelow, HasSymbols}
 use Rattle.ot_trace.specs.declared.step.Step.{Step}
 use Rattle.ot_trace.specs.declared.step.Step.TheVariants as steps
 use Rattle.ot_trace.specs.contracts.step.StepPartialEq.TheImpl as derived
-use Rattle.ot_plain.specs.declared.command.Cmd.{Cmd}
-use Rattle.ot_plain.specs.declared.command.Cmd.TheVariants as words
-use Rattle.ot_plain.specs.contracts.command.CmdPartialEq.TheImpl as words_test
+use Rattle.ot_logic.specs.declared.command.Cmd.{Cmd}
+use Rattle.ot_logic.specs.declared.command.Cmd.TheVariants as words
+use Rattle.ot_logic.specs.contracts.command.CmdPartialEq.TheImpl as words_test
 
 -- the derived test
 abbrev pub step_eq : Step → Step → Bool

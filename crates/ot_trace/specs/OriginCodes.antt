@@ -5,9 +5,9 @@ use Rattle.std.specs.Coded.{Coded, code_by, coded_ℕ, coded_ℤ, coded_list}
 use base.Stored.{Gv, gnil, gnum, gcons, num}
 use mathlib.Core.Path.{ap, subst}
 use lib.Dec.{T, eqb}
-use Rattle.ot_plain.specs.declared.command.Cmd.{Cmd}
-use Rattle.ot_plain.specs.declared.command.Cmd.TheVariants as words
-use Rattle.ot_plain.specs.Commands.{spelling, command_of}
+use Rattle.ot_logic.specs.declared.command.Cmd.{Cmd}
+use Rattle.ot_logic.specs.declared.command.Cmd.TheVariants as words
+use Rattle.ot_logic.specs.Commands.{spelling, command_of}
 use Rattle.ot_trace.specs.Origins.{Origin, Origins, Number, Named, Make, Define, Outcome, NoOrigins, MoreOrigins}
 
 abbrev first : Gv → Gv

@@ -1,6 +1,6 @@
 -- What roots lead to.
 use Rattle.std.specs.Prelude.{◌≡◌, ◌↔◌, ℕ, ◌<◌, Bool, true, List, length, map, slice_get, Some}
-use Rattle.ot_plain.specs.Lists.{IsMember}
+use Rattle.ot_logic.specs.Lists.{IsMember}
 use Rattle.ot_trace.specs.Origins.{Origin, Outcome, operands, symbols}
 use Rattle.ot_trace.specs.Trace.{origin_at}
 

@@ -6,9 +6,9 @@ use Rattle.std.specs.Hash.{HashWrites}
 use Rattle.std.specs.Cmp.Lexicographic.{pointwise}
 use Rattle.std.proofs.lemmas.Bool.Decides.{Decides-int_eq}
 use Rattle.std.proofs.lemmas.Slice.Eq.{bytes_eq-Decides}
-use Rattle.ot_plain.specs.contracts.command.CmdPartialEq.TheImpl as words_test
-use Rattle.ot_plain.specs.contracts.command.CmdHash.TheImpl as words_hash
-use Rattle.ot_plain.specs.contracts.command.CmdHash.TheImpl.Laws.{respects_eq-law}
+use Rattle.ot_logic.specs.contracts.command.CmdPartialEq.TheImpl as words_test
+use Rattle.ot_logic.specs.contracts.command.CmdHash.TheImpl as words_hash
+use Rattle.ot_logic.specs.contracts.command.CmdHash.TheImpl.Laws.{respects_eq-law}
 use Rattle.ot_trace.specs.OperandHash.{same_operands, operand_writes, operand_writes-alike}
 use Rattle.ot_trace.specs.declared.step.Step.{Step}
 use Rattle.ot_trace.specs.declared.step.Step.TheVariants.{Number, Name, Make, Define, Outcome}

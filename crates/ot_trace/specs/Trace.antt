@@ -3,9 +3,9 @@ use Rattle.std.specs.Prelude.{◌≡◌, ℕ, ◌<◌, ◌⊎◌, length, List, 
 use Rattle.std.specs.List.{All}
 use Rattle.ot_trace.specs.Origins.{Origin, Origins, Number, Named, Make, Define}
 use Rattle.ot_trace.specs.Origins.{Outcome, NoOrigins, MoreOrigins, operands, symbols}
-use Rattle.ot_plain.specs.Table.{IsInjective}
-use Rattle.ot_plain.specs.Lists.{IsMember}
-use Rattle.ot_plain.specs.Interned.{trees_of, IsSound}
+use Rattle.ot_logic.specs.Table.{IsInjective}
+use Rattle.ot_logic.specs.Lists.{IsMember}
+use Rattle.ot_logic.specs.Interned.{trees_of, IsSound}
 use Rattle.ot_trace.specs.declared.step.Step.{Step}
 use Rattle.ot_trace.specs.declared.step.Step.TheVariants as steps
 

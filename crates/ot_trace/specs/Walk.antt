@@ -1,7 +1,7 @@
 -- The walk over a table of steps, by number.
 use Rattle.std.specs.Prelude.{◌≡◌, ◌+◌, ◌<◌, ◌⊎◌, ℕ, suc, cond, Bool, List, [], ◌∷◌, length, map, Some, nat_eq}
 use Rattle.std.specs.Map.{lookup}
-use Rattle.ot_plain.specs.Lists.{IsMember}
+use Rattle.ot_logic.specs.Lists.{IsMember}
 use Rattle.ot_trace.specs.Origins.{Origin, symbols}
 use Rattle.ot_trace.specs.Trace.{origin_at, IsPartOf}
 use Rattle.ot_trace.specs.Reach.{IsMarked}

@@ -6,7 +6,7 @@ ghost use Rattle.ot_trace.specs.Uses.{AreCounts};
 
 use crate::step::Step;
 use crate::trace::{StepId, Trace};
-use ot_plain::Memory;
+use ot_logic::Memory;
 use std::alloc::Global;
 
 /// How often each step is used: as one of the roots, or as an operand of a marked step.

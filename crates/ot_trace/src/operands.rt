@@ -4,7 +4,7 @@ ghost use Rattle.std.specs.Cmp.Rules.{comparing};
 ghost use Rattle.ot_trace.specs.OperandHash.{same_operands, operand_writes, operand_writes-alike};
 
 use crate::trace::StepId;
-use ot_plain::Memory;
+use ot_logic::Memory;
 use std::alloc::Global;
 use std::hash::{Hash, Hasher};
 use std::marker::Model;

@@ -1,6 +1,6 @@
 ghost use Rattle.std.specs.Prelude.{◌≡◌, ℕ, true, Some, List, [], ◌∷◌, ◌<◌, length, IfOk, OnOk};
 ghost use Rattle.std.specs.List.{All};
-ghost use Rattle.ot_plain.specs.Lists.{IsMember};
+ghost use Rattle.ot_logic.specs.Lists.{IsMember};
 ghost use Rattle.ot_trace.specs.Reach.{MarksReached};
 ghost use Rattle.ot_trace.specs.Walk.{Visits, AreDefiners, Notes, IsNoted, IsPartNumber, StepLeadsTo, symbol_numbers};
 ghost use Rattle.ot_trace.specs.Trace.{IsBelow};
@@ -8,7 +8,7 @@ ghost use Rattle.ot_trace.specs.Trace.{IsBelow};
 use crate::step::Step;
 use crate::trace::{StepId, Trace};
 use indexmap::IndexMap;
-use ot_plain::Memory;
+use ot_logic::Memory;
 use std::alloc::Global;
 
 /// The marks of the steps that the roots lead to, among these definitions: a step leads to its

@@ -3,7 +3,7 @@ ghost use Rattle.ot_trace.specs.StepHash.{step_writes, step_writes-alike};
 
 use crate::operands::{Operands, hash_operands};
 use crate::trace::StepId;
-use ot_plain::{Cmd, NameId};
+use ot_logic::{Cmd, NameId};
 use std::hash::{Hash, Hasher};
 
 /// How an object was made, with the parts by number.

@@ -1,12 +1,12 @@
 ghost use Rattle.std.specs.Prelude.{◌≡◌, ℕ, ◌<◌, ◌++◌, ◌∷◌, [], ◌⊎◌, ◌≢◌, Some};
 ghost use Rattle.std.specs.Prelude.{slice_get, length, IfOk, OnOk, OnErr, IfSome, IfNone};
-ghost use Rattle.ot_plain.specs.Table.{IsInjective};
+ghost use Rattle.ot_logic.specs.Table.{IsInjective};
 
 mod making;
 
 use crate::step::Step;
 use indexmap::IndexMap;
-use ot_plain::Memory;
+use ot_logic::Memory;
 use std::alloc::Global;
 use std::marker::Model;
 

@@ -5,10 +5,10 @@ use Rattle.std.proofs.lemmas.Option.{same_Some}
 use Rattle.indexmap.specs.IndexMap.{IndexMap, keys, insert_entry, insert_index, set_value_at}
 use Rattle.indexmap.specs.Layout.{length-set_value_at}
 use Rattle.indexmap.proofs.MapLemmas.{Found-position, Missing-position, insert_entry-first}
-use Rattle.ot_plain.specs.Table.{Extends}
-use Rattle.ot_plain.specs.Interned.{grow, trees_of, IsSound, NodeLaws}
-use Rattle.ot_plain.proofs.TableLemmas.{Extends-refl}
-use Rattle.ot_plain.proofs.InternedLemmas.{found, pushed}
+use Rattle.ot_logic.specs.Table.{Extends}
+use Rattle.ot_logic.specs.Interned.{grow, trees_of, IsSound, NodeLaws}
+use Rattle.ot_logic.proofs.TableLemmas.{Extends-refl}
+use Rattle.ot_logic.proofs.InternedLemmas.{found, pushed}
 
 module _ {N T D : Type 0} where
   grow-set : (of : List T → N → T) (ts : List T) (es : List (N × D)) (i : ℕ) (d : D)

@@ -11,13 +11,13 @@ use Rattle.std.proofs.lemmas.Bool.{and_parts}
 use Rattle.smallvec.specs.SmallVec.{SmallVec}
 use Rattle.indexmap.specs.IndexMap.{IndexMap, insert_entry}
 use Rattle.indexmap.proofs.CallerLemmas.{insert_entry-new}
-use Rattle.ot_plain.specs.Trees.{Ty, Tys, TyVar, TyOp, NoTys, MoreTys}
-use Rattle.ot_plain.specs.Lists.{IsMember}
-use Rattle.ot_plain.specs.Hol.{depth_ty, depth_all, depth_limit, inst, inst_by, inst_all, type_at as image_of}
-use Rattle.ot_plain.specs.Naming.{numbers}
-use Rattle.ot_plain.specs.Bounds.{bound_ty, names_in}
-use Rattle.ot_plain.specs.Table.{Extends}
-use Rattle.ot_plain.proofs.TableLemmas.{Extends-trans}
+use Rattle.ot_logic.specs.Trees.{Ty, Tys, TyVar, TyOp, NoTys, MoreTys}
+use Rattle.ot_logic.specs.Lists.{IsMember}
+use Rattle.ot_logic.specs.Hol.{depth_ty, depth_all, depth_limit, inst, inst_by, inst_all, type_at as image_of}
+use Rattle.ot_logic.specs.Naming.{numbers}
+use Rattle.ot_logic.specs.Bounds.{bound_ty, names_in}
+use Rattle.ot_logic.specs.Table.{Extends}
+use Rattle.ot_logic.proofs.TableLemmas.{Extends-trans}
 use Rattle.ot_type.specs.TypeTable.{type_at, types_at, tree_of, images, is_ground, are_ground, IsTypeTable}
 use Rattle.ot_type.specs.Instance.{IsMemo, IsInstance}
 use Rattle.ot_type.proofs.SubtypeLemmas.{above, above-member}
@@ -25,8 +25,8 @@ use Rattle.ot_type.specs.declared.node.TypeNode.{TypeNode}
 use Rattle.ot_type.specs.declared.node.TypeNode.TheVariants.{Var, Op}
 use Rattle.ot_type.proofs.TypeTableLemmas.{type_at-Extends, node_op}
 use Rattle.ot_type.proofs.NamesIn.{bound_ty-type_at}
-use Rattle.ot_plain.proofs.Results.{none_from}
-use Rattle.ot_plain.proofs.Members.{IsMember-get_or}
+use Rattle.ot_logic.proofs.Results.{none_from}
+use Rattle.ot_logic.proofs.Members.{IsMember-get_or}
 
 -- ---- a pair that is added to a substitution
 -- a pair of a new name goes to the end

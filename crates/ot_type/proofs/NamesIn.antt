@@ -3,8 +3,8 @@ use Rattle.std.specs.Prelude.{ℕ, zero, suc, ◌<◌, ◌≤◌, max, List, [],
 use Rattle.std.specs.List.{All}
 use Rattle.std.proofs.Common.{arith}
 use Rattle.std.proofs.lemmas.List.Elements.{All-head, All-tail}
-use Rattle.ot_plain.specs.Trees.{Ty}
-use Rattle.ot_plain.specs.Bounds.{bound_ty, bound_tys, names_in}
+use Rattle.ot_logic.specs.Trees.{Ty}
+use Rattle.ot_logic.specs.Bounds.{bound_ty, bound_tys, names_in}
 use Rattle.ot_type.specs.TypeTable.{type_at, types_at}
 
 pub names_in-push : (ts : List (Ty ℕ)) (t : Ty ℕ) → names_in (ts ++ t ∷ []) ≤ max (names_in ts) (bound_ty t)

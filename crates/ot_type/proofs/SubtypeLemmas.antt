@@ -8,12 +8,12 @@ use Rattle.std.specs.declared.cmp.Ordering.{Ordering}
 use Rattle.std.specs.declared.cmp.Ordering.TheVariants.{Less, Equal, Greater}
 use Rattle.std.specs.BTreeSet.{insert_key}
 use Rattle.std.proofs.lemmas.List.{take_more}
-use Rattle.ot_plain.specs.Lists.{IsMember, IsSameSet}
-use Rattle.ot_plain.specs.Trees.{Ty, Tys, TyVar, TyOp, NoTys, MoreTys}
+use Rattle.ot_logic.specs.Lists.{IsMember, IsSameSet}
+use Rattle.ot_logic.specs.Trees.{Ty, Tys, TyVar, TyOp, NoTys, MoreTys}
 use Rattle.ot_type.specs.TypeTable.{type_at, types_at}
 use Rattle.ot_type.specs.Subtypes.{IsSubtype, IsInside, IsFalling, AddsParts}
-use Rattle.ot_plain.proofs.Members.{IsMember-cases, IsMember-last, IsMember-left, IsMember-right, IsMember-push}
-use Rattle.ot_plain.proofs.Members.{IsMember-get_or, All-at_member}
+use Rattle.ot_logic.proofs.Members.{IsMember-cases, IsMember-last, IsMember-left, IsMember-right, IsMember-push}
+use Rattle.ot_logic.proofs.Members.{IsMember-get_or, All-at_member}
 
 -- ---- members
 module _ {X : Type 0} where

@@ -9,15 +9,15 @@ use Rattle.std.proofs.lemmas.List.Elements.{All-head, All-tail}
 use Rattle.std.proofs.lemmas.Slice.Eq.{bytes_eq-Decides}
 use Rattle.std.proofs.lemmas.Bool.{and_parts}
 use Rattle.smallvec.specs.SmallVec.{SmallVec}
-use Rattle.ot_plain.specs.Trees.{Ty, TyVar, TyOp, NoTys, MoreTys}
-use Rattle.ot_plain.specs.Hol.{depth_ty, fun_ty, depth_limit}
-use Rattle.ot_plain.specs.Naming.{numbers}
-use Rattle.ot_plain.specs.Table.{Extends, IsInjective}
-use Rattle.ot_plain.proofs.TableLemmas.{get_or-Extends, get_or-IsInjective}
+use Rattle.ot_logic.specs.Trees.{Ty, TyVar, TyOp, NoTys, MoreTys}
+use Rattle.ot_logic.specs.Hol.{depth_ty, fun_ty, depth_limit}
+use Rattle.ot_logic.specs.Naming.{numbers}
+use Rattle.ot_logic.specs.Table.{Extends, IsInjective}
+use Rattle.ot_logic.proofs.TableLemmas.{get_or-Extends, get_or-IsInjective}
 use Rattle.ot_type.specs.TypeTable.{types_at, tree_of, type_at, ArgsBelow, Describes, IsBeside, IsTypeSound}
-use Rattle.ot_plain.specs.Interned.{NodeLaws, IsSound}
-use Rattle.ot_plain.proofs.InternedLemmas.{entry_at}
-use Rattle.ot_type.specs.declared.table.Beside.{Beside}
+use Rattle.ot_logic.specs.Interned.{NodeLaws, IsSound}
+use Rattle.ot_logic.proofs.InternedLemmas.{entry_at}
+use Rattle.ot_type.specs.declared.table.NodeInfo.{NodeInfo}
 use Rattle.ot_type.specs.declared.node.TypeNode.{TypeNode}
 use Rattle.ot_type.specs.declared.node.TypeNode.TheVariants.{Var, Op}
 use Rattle.ot_type.specs.contracts.node.TypeNodePartialEq.TheImpl as derived
@@ -101,7 +101,7 @@ laws = record {
 }
 
 -- the fields' facts, from those of the nodes
-pub type_sound : (es : List (TypeNode × Beside)) (ts : List (Ty ℕ)) → IsSound tree_of ArgsBelow IsBeside es ts
+pub type_sound : (es : List (TypeNode × NodeInfo)) (ts : List (Ty ℕ)) → IsSound tree_of ArgsBelow IsBeside es ts
     → IsTypeSound es ts
 type_sound es ts sound = record {
   nodes = sound;
@@ -117,8 +117,8 @@ type_sound es ts sound = record {
 }
 
 -- what stands beside a number is of the tree at it
-pub described_at : (es : List (TypeNode × Beside)) (ts : List (Ty ℕ)) → IsTypeSound es ts
-    → (i : ℕ) (n : TypeNode) (b : Beside) → slice_get es i ≡ Some (n, b) → Describes (type_at ts i) b
+pub described_at : (es : List (TypeNode × NodeInfo)) (ts : List (Ty ℕ)) → IsTypeSound es ts
+    → (i : ℕ) (n : TypeNode) (b : NodeInfo) → slice_get es i ≡ Some (n, b) → Describes (type_at ts i) b
 described_at es ts sound i n b p =
     let entry = sound.nodes.entries i n b p in
     subst (λ t. Describes t b) (sym (get_or_from_slice_get ts i _ (TyVar 0) entry.tree)) entry.fits

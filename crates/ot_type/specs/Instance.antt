@@ -1,9 +1,9 @@
 -- Instances of the types of a table, by remembered results.
 use Rattle.std.specs.Prelude.{◌≡◌, ℕ, ◌<◌, List, length, slice_get, Some, nat_eq}
 use Rattle.std.specs.Map.{lookup}
-use Rattle.ot_plain.specs.Trees.{Ty}
-use Rattle.ot_plain.specs.Hol.{inst}
-use Rattle.ot_plain.specs.Naming.{numbers}
+use Rattle.ot_logic.specs.Trees.{Ty}
+use Rattle.ot_logic.specs.Hol.{inst}
+use Rattle.ot_logic.specs.Naming.{numbers}
 use Rattle.ot_type.specs.TypeTable.{type_at, images}
 
 -- the remembered results are those of the substitution

@@ -2,12 +2,12 @@
 use Rattle.std.specs.Prelude.{◌≡◌, ◌&&◌, ℕ, ◌<◌, ◌≤◌, Bool, true, false, List}
 use Rattle.std.specs.Prelude.{[], ◌∷◌, slice_get, slice_index_or, Some, map}
 use Rattle.std.specs.List.{All}
-use Rattle.ot_plain.specs.Trees.{Ty, Tys, TyVar, TyOp, NoTys, MoreTys}
-use Rattle.ot_plain.specs.Hol.{depth_ty, depth_limit}
-use Rattle.ot_plain.specs.Naming.{numbers}
-use Rattle.ot_plain.specs.Table.{IsInjective}
-use Rattle.ot_plain.specs.Interned.{trees_of, IsSound}
-use Rattle.ot_type.specs.declared.table.Beside.{Beside}
+use Rattle.ot_logic.specs.Trees.{Ty, Tys, TyVar, TyOp, NoTys, MoreTys}
+use Rattle.ot_logic.specs.Hol.{depth_ty, depth_limit}
+use Rattle.ot_logic.specs.Naming.{numbers}
+use Rattle.ot_logic.specs.Table.{IsInjective}
+use Rattle.ot_logic.specs.Interned.{trees_of, IsSound}
+use Rattle.ot_type.specs.declared.table.NodeInfo.{NodeInfo}
 use Rattle.ot_type.specs.declared.node.TypeNode.{TypeNode}
 use Rattle.ot_type.specs.declared.node.TypeNode.TheVariants.{Var, Op}
 
@@ -50,19 +50,19 @@ abbrev mutual
   are_ground (MoreTys t ts) = is_ground t && are_ground ts
 
 -- what stands beside a node is of its tree
-pub record Describes (t : Ty ℕ) (b : Beside) : Type 0 where
+pub record Describes (t : Ty ℕ) (b : NodeInfo) : Type 0 where
   pub depth : b.depth ≡ depth_ty numbers t
   pub shallow : b.depth ≤ depth_limit
   pub ground : b.ground ≡ is_ground t
 
-abbrev pub IsBeside : List (Ty ℕ) → TypeNode → Beside → Type 0
+abbrev pub IsBeside : List (Ty ℕ) → TypeNode → NodeInfo → Type 0
 IsBeside ts n b = Describes (tree_of ts n) b
 
 -- the trees of the entries
-abbrev pub type_trees : List (TypeNode × Beside) → List (Ty ℕ)
+abbrev pub type_trees : List (TypeNode × NodeInfo) → List (Ty ℕ)
 type_trees es = trees_of tree_of es
 
 -- what the fields keep, with what callers may know of the trees
-pub record IsTypeSound (es : List (TypeNode × Beside)) (ts : List (Ty ℕ)) : Type 0 where
+pub record IsTypeSound (es : List (TypeNode × NodeInfo)) (ts : List (Ty ℕ)) : Type 0 where
   pub nodes : IsSound tree_of ArgsBelow IsBeside es ts
   pub table : IsTypeTable ts

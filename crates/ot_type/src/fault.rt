@@ -1,4 +1,4 @@
-use ot_plain::Memory;
+use ot_logic::Memory;
 use std::alloc::{AllocError, AllocFailed};
 
 /// Why a table has no number for a type or a term.

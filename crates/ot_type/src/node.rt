@@ -2,7 +2,7 @@ ghost use Rattle.std.specs.Prelude.{◌≡◌, fold};
 ghost use Rattle.ot_type.specs.NodeHash.{node_writes, args_writes, node_writes-alike};
 
 use crate::table::TypeId;
-use ot_plain::NameId;
+use ot_logic::NameId;
 use smallvec::SmallVec;
 use std::hash::{Hash, Hasher};
 

@@ -5,7 +5,7 @@ ghost use Rattle.std.specs.List.{All};
 
 use crate::table::TypeId;
 use indexmap::IndexMap;
-use ot_plain::{Memory, NameId};
+use ot_logic::{Memory, NameId};
 use std::alloc::Global;
 use std::marker::Model;
 

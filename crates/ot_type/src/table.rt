@@ -1,11 +1,11 @@
 ghost use Rattle.std.specs.Prelude.{◌≡◌, ℕ, ◌<◌, ◌≤◌, ◌+◌, max, ◌∷◌, [], Some, Err};
 ghost use Rattle.std.specs.Prelude.{slice_get, length, IfOk, IfSome, OnErr, MatchOption, ◌≢◌, ◌*◌};
 ghost use Rattle.std.specs.List.{All};
-ghost use Rattle.ot_plain.specs.Table.{Extends};
-ghost use Rattle.ot_plain.specs.Trees.{Ty, TyOp, TyVar};
-ghost use Rattle.ot_plain.specs.Hol.{depth_ty, depth_all, fun_ty, bool_ty, depth_limit};
-ghost use Rattle.ot_plain.specs.Naming.{numbers};
-ghost use Rattle.ot_plain.specs.Bounds.{bound_ty, names_in};
+ghost use Rattle.ot_logic.specs.Table.{Extends};
+ghost use Rattle.ot_logic.specs.Trees.{Ty, TyOp, TyVar};
+ghost use Rattle.ot_logic.specs.Hol.{depth_ty, depth_all, fun_ty, bool_ty, depth_limit};
+ghost use Rattle.ot_logic.specs.Naming.{numbers};
+ghost use Rattle.ot_logic.specs.Bounds.{bound_ty, names_in};
 
 mod instance;
 mod subtypes;
@@ -13,7 +13,7 @@ mod subtypes;
 use crate::fault::TableFault;
 use crate::node::TypeNode;
 use indexmap::IndexMap;
-use ot_plain::{DEPTH_LIMIT, Memory, NameId};
+use ot_logic::{DEPTH_LIMIT, Memory, NameId};
 use smallvec::SmallVec;
 use std::alloc::Global;
 use std::marker::Model;
@@ -43,7 +43,7 @@ impl TypeId {
 
 /// What stands beside a node: how deep its type is, and whether no type variable stands in it.
 #[derive(Clone, Copy, Debug)]
-struct Beside {
+struct NodeInfo {
     depth: u32,
     ground: bool,
 }
@@ -57,14 +57,14 @@ struct Beside {
 /// argument.
 #[derive(Drop)]
 pub struct Types {
-    nodes: IndexMap<TypeNode, Beside>,
+    nodes: IndexMap<TypeNode, NodeInfo>,
 }
 
 impl Model for Types {
     ghost use Rattle.std.specs.Prelude.{ℕ, List};
     ghost use Rattle.std.specs.Coded.{coded_list, coded_ℕ};
-    ghost use Rattle.ot_plain.specs.Trees.{Ty};
-    ghost use Rattle.ot_plain.specs.Codes.{coded_ty};
+    ghost use Rattle.ot_logic.specs.Trees.{Ty};
+    ghost use Rattle.ot_logic.specs.Codes.{coded_ty};
 
     ghost Value = { List (Ty ℕ) };
 
@@ -97,7 +97,7 @@ impl Types {
         ensures err { OnErr result (self.new ≡ self.old) }
         ensures table { IsTypeTable self.new }
     {
-        let beside = Beside {
+        let beside = NodeInfo {
             depth: 1,
             ground: false,
         };
@@ -125,7 +125,7 @@ impl Types {
         if deepest >= DEPTH_LIMIT {
             return Err(TableFault::Nesting);
         }
-        let beside = Beside {
+        let beside = NodeInfo {
             depth: deepest + 1,
             ground: self.are_ground(args),
         };
@@ -164,7 +164,7 @@ impl Types {
         if let Some(id) = self.find(&node) {
             return Ok(id);
         }
-        let beside = Beside {
+        let beside = NodeInfo {
             depth: 1,
             ground: true,
         };
@@ -209,7 +209,7 @@ impl Types {
     }
 
     /// The number of a node, which is added where it is new.
-    fn intern(&mut self, node: TypeNode, beside: Beside) -> Result<TypeId, Memory>
+    fn intern(&mut self, node: TypeNode, beside: NodeInfo) -> Result<TypeId, Memory>
         requires args { ArgsBelow (length self.old) node }
         requires beside { Describes (tree_of self.old node) beside }
         ensures ok { IfOk result (λ id. slice_get self.new id ≡ Some (tree_of self.old node)) }
@@ -268,7 +268,7 @@ impl Types {
     }
 
     /// What stands beside the node of a type.
-    fn beside(&self, id: TypeId) -> &Beside
+    fn beside(&self, id: TypeId) -> &NodeInfo
         requires { id < length self.now }
         ensures { Describes (type_at self.now id) result.now }
     {

@@ -2,10 +2,10 @@
 use Rattle.std.proofs.Common.{◌≡◌, ℕ, suc, ◌<◌, Bool, List, [], ◌∷◌, length, map, sym, subst, ◌∙◌, inl, inr, arith}
 use Rattle.std.specs.Prelude.{pos}
 use Rattle.std.specs.List.{All, filter}
-use Rattle.ot_plain.specs.Table.{IsInjective}
-use Rattle.ot_plain.specs.Names.{Name}
-use Rattle.ot_plain.specs.Naming.{name_of, IsNameTable}
-use Rattle.ot_plain.proofs.Naming.{name_of-injective}
+use Rattle.ot_logic.specs.Table.{IsInjective}
+use Rattle.ot_logic.specs.Names.{Name}
+use Rattle.ot_logic.specs.Naming.{name_of, IsNameTable}
+use Rattle.ot_logic.proofs.Naming.{name_of-injective}
 use Rattle.ot_kernel.specs.State.{name_at}
 use Rattle.ot_kernel.proofs.Namings.{name_of-index}
 use Rattle.ot_trace.specs.Origins.{Origin, Number, map_origin}
@@ -21,7 +21,7 @@ use Rattle.ot_uses.specs.Used.{numbered, places_in, same, assumption_places, def
 use Rattle.ot_uses.proofs.Numbering.{filter-places, firsts-places}
 use Rattle.ot_uses.proofs.Marking.{IsIn, assumptions-found, definitions-found}
 use Rattle.ot_uses.proofs.Standing.{given-origins, made-origins}
-use Rattle.ot_plain.proofs.Members.{map_agree}
+use Rattle.ot_logic.proofs.Members.{map_agree}
 
 members-in : (n : ℕ) (is : List ℕ) → All (λ i. i < n) is → IsIn n is
 members-in n [] h i m = absurd m

@@ -3,18 +3,18 @@ use Rattle.std.specs.Prelude.{IfOk, IsTrue, nat_lt, nat_le, ◌-◌, ◌==◌, �
 use Rattle.std.specs.List.{AllByRecursion, list_any}
 use Rattle.std.proofs.Common.{◌≡◌, ℕ, zero, suc, Bool, true, false, List, [], ◌∷◌}
 use Rattle.std.proofs.Common.{Result, Ok, Err, refl, length, slice_get, inl, inr, ◌⊎◌}
-use Rattle.ot_plain.specs.Names.{Name}
-use Rattle.ot_plain.specs.Naming.{names}
-use Rattle.ot_plain.specs.Trees.{Variable, Sequent, Definition, Tm, TyVar, Free, Con, App, Abs}
-use Rattle.ot_plain.specs.Hol.{IsWellTyped, HasType, IsTyped, TypeMap, TermMap}
-use Rattle.ot_plain.specs.Hol.{same_var, close, is_shallow, depth_limit}
-use Rattle.ot_plain.specs.Rules.{has_type, op_rule, app_rule, abs_rule, abs_thm_rule, refl_rule}
-use Rattle.ot_plain.specs.Rules.{assume_rule, eq_mp_rule, app_thm_rule, deduct_antisym_rule}
-use Rattle.ot_plain.specs.Rules.{beta_conv_rule, subst_rule, sym_rule, trans_rule, prove_hyp_rule}
-use Rattle.ot_plain.specs.Faults.{Fault, BadSubst, StackEmpty, Nesting}
-use Rattle.ot_plain.specs.Answers.{◌>>=◌, unless, some_or}
-use Rattle.ot_plain.specs.declared.command.Cmd.{Cmd}
-use Rattle.ot_plain.specs.declared.command.Cmd.TheVariants as words
+use Rattle.ot_logic.specs.Names.{Name}
+use Rattle.ot_logic.specs.Naming.{names}
+use Rattle.ot_logic.specs.Trees.{Variable, Sequent, Definition, Tm, TyVar, Free, Con, App, Abs}
+use Rattle.ot_logic.specs.Hol.{IsWellTyped, HasType, IsTyped, TypeMap, TermMap}
+use Rattle.ot_logic.specs.Hol.{same_var, close, is_shallow, depth_limit}
+use Rattle.ot_logic.specs.Rules.{has_type, op_rule, app_rule, abs_rule, abs_thm_rule, refl_rule}
+use Rattle.ot_logic.specs.Rules.{assume_rule, eq_mp_rule, app_thm_rule, deduct_antisym_rule}
+use Rattle.ot_logic.specs.Rules.{beta_conv_rule, subst_rule, sym_rule, trans_rule, prove_hyp_rule}
+use Rattle.ot_logic.specs.Faults.{Fault, BadSubst, StackEmpty, Nesting}
+use Rattle.ot_logic.specs.Answers.{◌>>=◌, unless, some_or}
+use Rattle.ot_logic.specs.declared.command.Cmd.{Cmd}
+use Rattle.ot_logic.specs.declared.command.Cmd.TheVariants as words
 use Rattle.ot_laws.specs.Theorem.{IsTheorem}
 use Rattle.ot_laws.proofs.Tests.{tells_names, has_type-is}
 use Rattle.ot_machine.specs.Objects.{Object, Objects, list, type_op, a_type, constant, variable}

@@ -1,11 +1,11 @@
 -- Origins whose axioms and definitions give theorems over these assumptions and definitions.
 use Rattle.std.specs.Prelude.{List, IfOk}
-use Rattle.ot_plain.specs.Names.{Name}
-use Rattle.ot_plain.specs.Naming.{names}
-use Rattle.ot_plain.specs.Trees.{Sequent, Definition}
-use Rattle.ot_plain.specs.Hol.{IsWellTyped}
-use Rattle.ot_plain.specs.declared.command.Cmd.{Cmd}
-use Rattle.ot_plain.specs.declared.command.Cmd.TheVariants as words
+use Rattle.ot_logic.specs.Names.{Name}
+use Rattle.ot_logic.specs.Naming.{names}
+use Rattle.ot_logic.specs.Trees.{Sequent, Definition}
+use Rattle.ot_logic.specs.Hol.{IsWellTyped}
+use Rattle.ot_logic.specs.declared.command.Cmd.{Cmd}
+use Rattle.ot_logic.specs.declared.command.Cmd.TheVariants as words
 use Rattle.ot_laws.specs.Theorem.{IsTheorem}
 use Rattle.ot_machine.specs.Objects.{Object, Objects, number, name, list, type_op, a_type}
 use Rattle.ot_machine.specs.Objects.{constant, variable, term, theorem, no_objects, more_objects}

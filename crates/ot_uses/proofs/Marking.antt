@@ -8,10 +8,10 @@ use Rattle.std.proofs.lemmas.Bool.Decides.{eqb_tells}
 use Rattle.std.proofs.lemmas.List.{length-set}
 use Rattle.std.proofs.lemmas.Option.{slice_get-get_or}
 use Rattle.std.proofs.lemmas.Simd.{map-map}
-use Rattle.ot_plain.specs.Lists.{IsMember}
-use Rattle.ot_plain.specs.Table.{IsInjective}
-use Rattle.ot_plain.specs.Names.{Name, same_name-Decides}
-use Rattle.ot_plain.specs.Naming.{names}
+use Rattle.ot_logic.specs.Lists.{IsMember}
+use Rattle.ot_logic.specs.Table.{IsInjective}
+use Rattle.ot_logic.specs.Names.{Name, same_name-Decides}
+use Rattle.ot_logic.specs.Naming.{names}
 use Rattle.ot_trace.specs.Origins.{Origin, Number, map_origin}
 use Rattle.ot_trace.specs.Trace.{origin_at}
 use Rattle.ot_trace.specs.Reach.{IsReached, IsMarked, MarksReached}
@@ -27,7 +27,7 @@ use Rattle.ot_uses.specs.Placing.{is_marked, marked_places, first_places}
 use Rattle.ot_uses.specs.Used.{numbered, places_in, same}
 use Rattle.ot_uses.proofs.Numbering.{filter-places, firsts-places, numbered-member}
 use Rattle.ot_uses.proofs.Renamed.{reached-to, reached-from}
-use Rattle.ot_plain.proofs.Members.{IsMember-map}
+use Rattle.ot_logic.proofs.Members.{IsMember-map}
 
 tells : Tells same
 tells = same-origin-law names.same same_name-Decides

@@ -1,9 +1,9 @@
 -- Definitions that are accepted as a part of others.
 use Rattle.std.specs.Prelude.{slice_get}
 use Rattle.std.proofs.Common.{◌≡◌, ℕ, List, Some, take}
-use Rattle.ot_plain.specs.Lists.{IsPart}
-use Rattle.ot_plain.specs.Trees.{Alphabet, Sequent, Definition, ConDef, ListDef, TyDef}
-use Rattle.ot_plain.specs.Hol.{Derivable, IsFine, Accepted}
+use Rattle.ot_logic.specs.Lists.{IsPart}
+use Rattle.ot_logic.specs.Trees.{Alphabet, Sequent, Definition, ConDef, ListDef, TyDef}
+use Rattle.ot_logic.specs.Hol.{Derivable, IsFine, Accepted}
 
 -- some members of a list, in their old order: what stands before one stood before it
 abbrev pub IsInOrder : {X : Type 0} → List X → List X → Type 0

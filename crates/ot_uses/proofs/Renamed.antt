@@ -1,10 +1,10 @@
 -- What roots lead to, with other names.
 use Rattle.std.proofs.Common.{◌≡◌, ℕ, List, map, sym, ap, subst, ◌∙◌}
-use Rattle.ot_plain.specs.Lists.{IsMember}
+use Rattle.ot_logic.specs.Lists.{IsMember}
 use Rattle.ot_trace.specs.Origins.{Origin, Outcome, operands, symbols, map_origin}
 use Rattle.ot_trace.specs.Reach.{IsReached, Root, Operand, OfTheorem, OfSymbol}
 use Rattle.ot_written.proofs.Renaming.{operands-map, symbols-map, origin-injective}
-use Rattle.ot_plain.proofs.Members.{IsMember-map, IsMember-map_back}
+use Rattle.ot_logic.proofs.Members.{IsMember-map, IsMember-map_back}
 
 module _ {M N : Type 0} (f : M → N) where
   abbrev to : Origin M → Origin N

@@ -5,17 +5,17 @@ use Rattle.std.proofs.Common.{◌≡◌, ℕ, zero, suc, Bool, true, false, List
 use Rattle.std.proofs.Common.{Ok, Err, refl, sym, ap, subst, ◌∙◌, length, map, take, slice_get, inl, inr}
 use Rattle.std.proofs.lemmas.Option.{same_Some}
 use Rattle.std.proofs.lemmas.List.{take-map}
-use Rattle.ot_plain.specs.Names.{Name}
-use Rattle.ot_plain.specs.Naming.{names}
-use Rattle.ot_plain.specs.Lists.{IsMember, IsPart, AreDistinct}
-use Rattle.ot_plain.specs.Trees.{Sequent, Definition, ConDef, ListDef, TyDef, Tm}
-use Rattle.ot_plain.specs.Hol.{HasType, IsSequent, Defined, Accepted, bool_ty}
-use Rattle.ot_plain.specs.Hol.{once_each, theorems, is_shallow_sequent}
-use Rattle.ot_plain.specs.Rules.{has_type}
-use Rattle.ot_plain.specs.Faults.{Fault, StackEmpty, NotBool, Nesting}
-use Rattle.ot_plain.specs.Answers.{◌>>=◌, unless, some_or}
-use Rattle.ot_plain.specs.declared.command.Cmd.{Cmd}
-use Rattle.ot_plain.specs.declared.command.Cmd.TheVariants as words
+use Rattle.ot_logic.specs.Names.{Name}
+use Rattle.ot_logic.specs.Naming.{names}
+use Rattle.ot_logic.specs.Lists.{IsMember, IsPart, AreDistinct}
+use Rattle.ot_logic.specs.Trees.{Sequent, Definition, ConDef, ListDef, TyDef, Tm}
+use Rattle.ot_logic.specs.Hol.{HasType, IsSequent, Defined, Accepted, bool_ty}
+use Rattle.ot_logic.specs.Hol.{once_each, theorems, is_shallow_sequent}
+use Rattle.ot_logic.specs.Rules.{has_type}
+use Rattle.ot_logic.specs.Faults.{Fault, StackEmpty, NotBool, Nesting}
+use Rattle.ot_logic.specs.Answers.{◌>>=◌, unless, some_or}
+use Rattle.ot_logic.specs.declared.command.Cmd.{Cmd}
+use Rattle.ot_logic.specs.declared.command.Cmd.TheVariants as words
 use Rattle.ot_laws.specs.Theorem.{IsTheorem, AreSequents}
 use Rattle.ot_laws.proofs.Tests.{tells_names, has_type-is}
 use Rattle.ot_laws.proofs.Hypotheses.{same_set-once_each, distinct-once_each}
@@ -39,9 +39,9 @@ use Rattle.ot_machine.specs.Rows.{definitions_of}
 use Rattle.ot_uses.proofs.Resting.{IsAssumed, StandsOn, AllStand, PartsSuffice}
 use Rattle.ot_uses.proofs.Parted.{accepted_part}
 use Rattle.ot_uses.proofs.Goodness.{if_bind, any_bind, value_at-good, read-theorem, value-good, values-good}
-use Rattle.ot_plain.proofs.Elements.{slice_get-map}
-use Rattle.ot_plain.proofs.Members.{IsMember-at, IsMember-map, IsPart-map, IsPart-take, IsMember-place}
-use Rattle.ot_plain.proofs.Results.{if_ok}
+use Rattle.ot_logic.proofs.Elements.{slice_get-map}
+use Rattle.ot_logic.proofs.Members.{IsMember-at, IsMember-map, IsPart-map, IsPart-take, IsMember-place}
+use Rattle.ot_logic.proofs.Results.{if_ok}
 
 -- ---- axioms
 

@@ -4,14 +4,14 @@ use Rattle.std.specs.Bool.{Decides}
 use Rattle.std.specs.List.{All}
 use Rattle.std.proofs.Common.{◌≡◌, ℕ, zero, suc, true, false, List, [], ◌∷◌, Some, Result, Ok, refl}
 use Rattle.std.proofs.Common.{sym, ap, subst, ◌∙◌, map, take, slice_get, inl, inr, ◌⊎◌, arith}
-use Rattle.ot_plain.specs.Names.{Name, same_name-Decides}
-use Rattle.ot_plain.specs.Naming.{names}
-use Rattle.ot_plain.specs.Lists.{IsMember, IsPart}
-use Rattle.ot_plain.specs.Trees.{Sequent, Definition}
-use Rattle.ot_plain.specs.Hol.{IsSequent}
-use Rattle.ot_plain.specs.Faults.{Fault}
-use Rattle.ot_plain.specs.declared.command.Cmd.{Cmd}
-use Rattle.ot_plain.specs.declared.command.Cmd.TheVariants as words
+use Rattle.ot_logic.specs.Names.{Name, same_name-Decides}
+use Rattle.ot_logic.specs.Naming.{names}
+use Rattle.ot_logic.specs.Lists.{IsMember, IsPart}
+use Rattle.ot_logic.specs.Trees.{Sequent, Definition}
+use Rattle.ot_logic.specs.Hol.{IsSequent}
+use Rattle.ot_logic.specs.Faults.{Fault}
+use Rattle.ot_logic.specs.declared.command.Cmd.{Cmd}
+use Rattle.ot_logic.specs.declared.command.Cmd.TheVariants as words
 use Rattle.ot_laws.specs.Theorem.{AreSequents}
 use Rattle.ot_laws.proofs.Tests.{cases_of}
 use Rattle.ot_trace.specs.Origins.{Origin, Origins, Number, Named, Make, Define}
@@ -36,9 +36,9 @@ use Rattle.ot_uses.specs.Suffices.{UsesSuffice}
 use Rattle.ot_uses.proofs.Parted.{IsInOrder}
 use Rattle.ot_uses.proofs.Resting.{IsAssumed, StandsOn, AllStand, StandsMade, Suffice}
 use Rattle.ot_uses.proofs.Suffices.{parts_suffice, get-map, ok_if, value-axiom, IsProposed}
-use Rattle.ot_plain.proofs.Members.{IsMember-at, IsMember-map, IsMember-map_back, IsPart-take, IsMember-place}
-use Rattle.ot_plain.proofs.Members.{All-from_members}
-use Rattle.ot_plain.proofs.Results.{same_Ok}
+use Rattle.ot_logic.proofs.Members.{IsMember-at, IsMember-map, IsMember-map_back, IsPart-take, IsMember-place}
+use Rattle.ot_logic.proofs.Members.{All-from_members}
+use Rattle.ot_logic.proofs.Results.{same_Ok}
 
 all-member : {A : Type 0} (P : A → Type 0) (xs : List A) → All P xs → (x : A) → IsMember x xs → P x
 all-member P [] h x m = absurd m

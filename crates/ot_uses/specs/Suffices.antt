@@ -1,9 +1,9 @@
 -- The law that what a theorem rests on suffices for it.
 use Rattle.std.specs.Prelude.{map}
 use Rattle.std.specs.List.{All}
-use Rattle.ot_plain.specs.Names.{Name}
-use Rattle.ot_plain.specs.Naming.{names}
-use Rattle.ot_plain.specs.Hol.{IsSequent, Accepted}
+use Rattle.ot_logic.specs.Names.{Name}
+use Rattle.ot_logic.specs.Naming.{names}
+use Rattle.ot_logic.specs.Hol.{IsSequent, Accepted}
 use Rattle.ot_laws.specs.Theorem.{IsTheorem}
 use Rattle.ot_machine.specs.States.{Export, RunState}
 use Rattle.ot_machine.specs.Rows.{definitions_of}

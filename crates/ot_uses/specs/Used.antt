@@ -1,9 +1,9 @@
 -- What the origin of a theorem leads to in a run: the assumptions and the definitions that the theorem rests on.
 use Rattle.std.specs.Prelude.{ℕ, suc, Bool, List, [], ◌∷◌, map}
 use Rattle.std.specs.List.{filter}
-use Rattle.ot_plain.specs.Names.{Name}
-use Rattle.ot_plain.specs.Naming.{names}
-use Rattle.ot_plain.specs.Trees.{Sequent, Definition}
+use Rattle.ot_logic.specs.Names.{Name}
+use Rattle.ot_logic.specs.Naming.{names}
+use Rattle.ot_logic.specs.Trees.{Sequent, Definition}
 use Rattle.ot_trace.specs.Origins.{Origin}
 use Rattle.ot_written.specs.Same.{same_origin}
 use Rattle.ot_written.specs.Needed.{firsts_by, is_among, needed_definitions, needed_origins}

@@ -3,8 +3,8 @@ ghost use Rattle.ot_machine.specs.Meaning.{origin_of, run_of, IsRun};
 ghost use Rattle.ot_uses.specs.Used.{assumption_places, definition_places};
 
 use crate::places::{Uses, first_places, marked_places};
+use ot_logic::Memory;
 use ot_machine::Session;
-use ot_plain::Memory;
 use ot_trace::{StepId, reach};
 use std::alloc::Global;
 

@@ -1,4 +1,4 @@
-ghost use Rattle.ot_plain.specs.Names.{Name};
+ghost use Rattle.ot_logic.specs.Names.{Name};
 ghost use Rattle.ot_machine.specs.Writable.{IsWritable};
 ghost use Rattle.ot_uses.specs.Suffices.{UsesSuffice};
 

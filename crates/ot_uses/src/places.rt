@@ -3,7 +3,7 @@ ghost use Rattle.std.specs.Prelude.{◌≡◌, ◌<◌, length, IfOk};
 ghost use Rattle.std.specs.List.{All};
 ghost use Rattle.ot_uses.specs.Placing.{first_places, marked_places};
 
-use ot_plain::Memory;
+use ot_logic::Memory;
 use ot_trace::StepId;
 use std::alloc::Global;
 

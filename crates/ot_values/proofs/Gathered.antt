@@ -1,9 +1,9 @@
 -- The lists that were read to their ends; and numbers that the table has just made.
 use Rattle.std.specs.Prelude.{◌≡◌, ◌≤◌, ℕ, List, map, take, length, Result, Ok}
 use Rattle.std.proofs.Common.{sym, ap, subst}
-use Rattle.ot_plain.specs.Names.{Name}
-use Rattle.ot_plain.specs.Trees.{Ty, Tm}
-use Rattle.ot_plain.specs.Faults.{Fault}
+use Rattle.ot_logic.specs.Names.{Name}
+use Rattle.ot_logic.specs.Trees.{Ty, Tm}
+use Rattle.ot_logic.specs.Faults.{Fault}
 use Rattle.ot_nodes.specs.Items.{Item, IsType, IsTerm, HasName, HasType, name_at, type_at}
 use Rattle.ot_nodes.proofs.ItemLemmas.{type-is, term-is, has-type, has-term}
 use Rattle.ot_machine.specs.Objects.{Object, a_type, term}

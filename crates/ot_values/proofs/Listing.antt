@@ -6,11 +6,11 @@ use Rattle.std.proofs.Common.{refl, sym, ap, subst, ◌∙◌, get_or, add-one, 
 use Rattle.std.proofs.Math.Seq.{take-suc}
 use Rattle.std.proofs.lemmas.List.{map-append, take_all}
 use Rattle.std.proofs.lemmas.List.Elements.{All-nil, All-cons}
-use Rattle.ot_plain.specs.Names.{Name}
-use Rattle.ot_plain.specs.Hol.{depth_limit}
-use Rattle.ot_plain.specs.Faults.{Fault, Nesting}
-use Rattle.ot_plain.specs.Answers.{◌>>=◌}
-use Rattle.ot_plain.specs.declared.command.Cmd.TheVariants as words
+use Rattle.ot_logic.specs.Names.{Name}
+use Rattle.ot_logic.specs.Hol.{depth_limit}
+use Rattle.ot_logic.specs.Faults.{Fault, Nesting}
+use Rattle.ot_logic.specs.Answers.{◌>>=◌}
+use Rattle.ot_logic.specs.declared.command.Cmd.TheVariants as words
 use Rattle.ot_trace.specs.Origins.{Origin, Origins, Make, make_two}
 use Rattle.ot_machine.specs.Objects.{Object, Objects, list, no_objects, more_objects, nesting}
 use Rattle.ot_machine.specs.Places.{as_list, as_each}

@@ -2,14 +2,14 @@
 use Rattle.std.specs.Option.{option_and_then}
 use Rattle.std.specs.Prelude.{◌≡◌, ℕ, Bool, true, false, List, [], ◌∷◌, map, Result, Ok, Err, if◌then◌else◌}
 use Rattle.std.proofs.Common.{refl, sym, ap, subst, ◌∙◌}
-use Rattle.ot_plain.specs.Names.{Name}
-use Rattle.ot_plain.specs.Naming.{names}
-use Rattle.ot_plain.specs.Trees.{Ty, TyVar, TyOp, MoreTys, Variable, Tm, Free, Con, App, Abs}
-use Rattle.ot_plain.specs.Hol.{close, as_fun_ty, type_in}
-use Rattle.ot_plain.specs.Rules.{has_type, op_rule, app_rule, abs_rule}
-use Rattle.ot_plain.specs.Faults.{Fault, NotFunction, ArgumentType}
-use Rattle.ot_plain.specs.Answers.{◌>>=◌, unless, some_or}
-use Rattle.ot_plain.specs.declared.command.Cmd.TheVariants as words
+use Rattle.ot_logic.specs.Names.{Name}
+use Rattle.ot_logic.specs.Naming.{names}
+use Rattle.ot_logic.specs.Trees.{Ty, TyVar, TyOp, MoreTys, Variable, Tm, Free, Con, App, Abs}
+use Rattle.ot_logic.specs.Hol.{close, as_fun_ty, type_in}
+use Rattle.ot_logic.specs.Rules.{has_type, op_rule, app_rule, abs_rule}
+use Rattle.ot_logic.specs.Faults.{Fault, NotFunction, ArgumentType}
+use Rattle.ot_logic.specs.Answers.{◌>>=◌, unless, some_or}
+use Rattle.ot_logic.specs.declared.command.Cmd.TheVariants as words
 use Rattle.ot_nodes.specs.Items.{Item, type_at, types_at}
 use Rattle.ot_trace.specs.Origins.{Origin, make_one, make_two}
 use Rattle.ot_machine.specs.Objects.{Object, name, type_op, a_type, constant, variable, term}
@@ -20,7 +20,7 @@ use Rattle.ot_machine.specs.Values.{value, applied}
 use Rattle.ot_machine.proofs.Tops.{same-ok}
 use Rattle.ot_values.specs.Steps.{Makes}
 use Rattle.ot_values.specs.Lists.{ReadsAs}
-use Rattle.ot_plain.proofs.Results.{bind-ok}
+use Rattle.ot_logic.proofs.Results.{bind-ok}
 
 -- ---- the operands of what has a value
 

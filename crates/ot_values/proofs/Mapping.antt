@@ -7,14 +7,14 @@ use Rattle.std.proofs.Common.{refl, sym, ap, subst, ◌∙◌, get_or, add-one}
 use Rattle.std.proofs.Math.Seq.{take-suc}
 use Rattle.std.proofs.lemmas.List.{map-append}
 use Rattle.std.proofs.lemmas.List.Elements.{All-nil, All-head, All-tail, All-push}
-use Rattle.ot_plain.specs.Names.{Name}
-use Rattle.ot_plain.specs.Naming.{names}
-use Rattle.ot_plain.specs.Trees.{Ty, Variable, Tm}
-use Rattle.ot_plain.specs.Hol.{TypeMap, TermMap, same_var}
-use Rattle.ot_plain.specs.Rules.{has_type}
-use Rattle.ot_plain.specs.Faults.{BadSubst}
-use Rattle.ot_plain.specs.Answers.{◌>>=◌, unless}
-use Rattle.ot_plain.specs.Table.{IsInjective}
+use Rattle.ot_logic.specs.Names.{Name}
+use Rattle.ot_logic.specs.Naming.{names}
+use Rattle.ot_logic.specs.Trees.{Ty, Variable, Tm}
+use Rattle.ot_logic.specs.Hol.{TypeMap, TermMap, same_var}
+use Rattle.ot_logic.specs.Rules.{has_type}
+use Rattle.ot_logic.specs.Faults.{BadSubst}
+use Rattle.ot_logic.specs.Answers.{◌>>=◌, unless}
+use Rattle.ot_logic.specs.Table.{IsInjective}
 use Rattle.ot_kernel.specs.Pairs.{with_type, with_term}
 use Rattle.ot_nodes.specs.Items.{Item, HasName, name_at, type_at, term_at}
 use Rattle.ot_nodes.specs.Changing.{variable_at, type_map, term_map, HasVariable, HasTypes, HasTerms}
@@ -34,7 +34,7 @@ use Rattle.ot_values.specs.Lists.{AreElementsOf, AreEachOf, AreMapsOf, HasPair, 
 use Rattle.ot_values.specs.Reading.{IsOneOf, HasTypePair, type_pair_at, HasTermPair, term_pair_at}
 use Rattle.ot_values.specs.Reading.{with_first, add_firsts, all_first}
 use Rattle.ot_values.proofs.Listing.{two-of}
-use Rattle.ot_plain.proofs.Results.{bind-ok}
+use Rattle.ot_logic.proofs.Results.{bind-ok}
 
 -- ---- a list of two
 

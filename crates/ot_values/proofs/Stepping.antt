@@ -4,7 +4,7 @@ use Rattle.std.specs.List.{All}
 use Rattle.std.proofs.Common.{refl, ap, subst, ◌∙◌}
 use Rattle.std.proofs.lemmas.List.Elements.{All-head, All-tail}
 use Rattle.std.proofs.lemmas.Option.{get_or_from_slice_get}
-use Rattle.ot_plain.specs.declared.command.Cmd.{Cmd}
+use Rattle.ot_logic.specs.declared.command.Cmd.{Cmd}
 use Rattle.ot_kernel.specs.State.{name_at}
 use Rattle.ot_trace.specs.Origins.{Origin, Number, Make, MoreOrigins, map_origin, map_origins}
 use Rattle.ot_trace.specs.Trace.{origins_at}

@@ -1,12 +1,12 @@
 -- Numbers of a node table that stand for the elements of a list that a step made.
 use Rattle.std.specs.Prelude.{◌≡◌, ℕ, List, [], ◌∷◌, map, Result, Ok}
 use Rattle.std.specs.List.{All}
-use Rattle.ot_plain.specs.Names.{Name}
-use Rattle.ot_plain.specs.Naming.{names}
-use Rattle.ot_plain.specs.Faults.{Fault}
-use Rattle.ot_plain.specs.Answers.{◌>>=◌}
-use Rattle.ot_plain.specs.Hol.{TypeMap, TermMap}
-use Rattle.ot_plain.specs.Trees.{Variable}
+use Rattle.ot_logic.specs.Names.{Name}
+use Rattle.ot_logic.specs.Naming.{names}
+use Rattle.ot_logic.specs.Faults.{Fault}
+use Rattle.ot_logic.specs.Answers.{◌>>=◌}
+use Rattle.ot_logic.specs.Hol.{TypeMap, TermMap}
+use Rattle.ot_logic.specs.Trees.{Variable}
 use Rattle.ot_nodes.specs.Items.{Item, HasName, HasType, HasTerm, name_at, type_at, term_at}
 use Rattle.ot_nodes.specs.Changing.{variable_at, type_map, term_map, HasVariable, HasTypes, HasTerms}
 use Rattle.ot_nodes.specs.declared.node.VariableNode.{VariableNode}

@@ -1,10 +1,10 @@
 -- Pairs of numbers that stand for lists of two, as they are read one by one.
 use Rattle.std.specs.Prelude.{◌≡◌, ℕ, Bool, List, [], ◌∷◌, ◌++◌, is_some, Result, Ok, if◌then◌else◌}
 use Rattle.std.specs.Map.{lookup}
-use Rattle.ot_plain.specs.Names.{Name}
-use Rattle.ot_plain.specs.Faults.{Fault}
-use Rattle.ot_plain.specs.Trees.{Ty, Variable, Tm}
-use Rattle.ot_plain.specs.Table.{Extends}
+use Rattle.ot_logic.specs.Names.{Name}
+use Rattle.ot_logic.specs.Faults.{Fault}
+use Rattle.ot_logic.specs.Trees.{Ty, Variable, Tm}
+use Rattle.ot_logic.specs.Table.{Extends}
 use Rattle.ot_nodes.specs.Items.{Item, HasName, HasType, HasTerm, name_at, type_at, term_at}
 use Rattle.ot_nodes.specs.Changing.{variable_at, HasVariable}
 use Rattle.ot_nodes.specs.declared.node.VariableNode.{VariableNode}

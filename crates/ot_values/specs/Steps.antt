@@ -1,7 +1,7 @@
 -- Numbers of a node table that stand for what steps of a trace made.
 use Rattle.std.specs.Prelude.{◌≡◌, ℕ, List, [], ◌∷◌, Ok}
-use Rattle.ot_plain.specs.Names.{Name}
-use Rattle.ot_plain.specs.declared.command.Cmd.{Cmd}
+use Rattle.ot_logic.specs.Names.{Name}
+use Rattle.ot_logic.specs.declared.command.Cmd.{Cmd}
 use Rattle.ot_nodes.specs.Items.{Item, HasName, HasType, HasTerm, name_at, type_at, term_at}
 use Rattle.ot_nodes.specs.Changing.{variable_at, HasVariable}
 use Rattle.ot_nodes.specs.declared.node.VariableNode.{VariableNode}

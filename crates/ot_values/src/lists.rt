@@ -1,9 +1,9 @@
 //! The elements of lists of names, of terms, and of pairs.
 ghost use Rattle.std.specs.Prelude.{◌≡◌, ◌<◌, List, Result, length, IfOk};
-ghost use Rattle.ot_plain.specs.Faults.{Fault};
-ghost use Rattle.ot_plain.specs.Names.{Name};
-ghost use Rattle.ot_plain.specs.Table.{Extends};
-ghost use Rattle.ot_plain.specs.Trees.{Ty, Variable, Tm};
+ghost use Rattle.ot_logic.specs.Faults.{Fault};
+ghost use Rattle.ot_logic.specs.Names.{Name};
+ghost use Rattle.ot_logic.specs.Table.{Extends};
+ghost use Rattle.ot_logic.specs.Trees.{Ty, Variable, Tm};
 ghost use Rattle.ot_nodes.specs.Items.{Item, HasTerm, term_at};
 ghost use Rattle.ot_machine.specs.DefinitionLists.{definition_pair};
 ghost use Rattle.ot_machine.specs.Meaning.{IsRun};
@@ -17,9 +17,9 @@ ghost use Rattle.ot_values.specs.Known.{AreKnown};
 
 use crate::steps::{elements, name, two_elements};
 use crate::values::Values;
+use ot_logic::Memory;
 use ot_machine::Session;
 use ot_nodes::{NameId, Nodes, TermId, TypeId, VariableNode};
-use ot_plain::Memory;
 use ot_trace::StepId;
 
 /// The names of the list of a step. It fails only where memory runs out, or where the step made no list of names.

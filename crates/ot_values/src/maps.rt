@@ -1,6 +1,6 @@
 //! The maps of a substitution.
 ghost use Rattle.std.specs.Prelude.{◌≡◌, ◌<◌, length, IfOk, OnOk};
-ghost use Rattle.ot_plain.specs.Table.{Extends};
+ghost use Rattle.ot_logic.specs.Table.{Extends};
 ghost use Rattle.ot_machine.specs.Meaning.{IsRun};
 ghost use Rattle.ot_values.specs.Lists.{AreMapsOf};
 ghost use Rattle.ot_values.specs.Reading.{with_first, all_first};
@@ -9,9 +9,9 @@ ghost use Rattle.ot_values.specs.Known.{AreKnown};
 use crate::steps::two_elements;
 use crate::values::Values;
 use indexmap::IndexMap;
+use ot_logic::Memory;
 use ot_machine::Session;
 use ot_nodes::{NameId, Nodes, TermId, TypeId, VariableNode};
-use ot_plain::Memory;
 use ot_trace::StepId;
 use std::alloc::Global;
 use std::hash::Hash;

@@ -1,17 +1,17 @@
 //! How a step was made; its name; and the steps of a list's elements.
 ghost use Rattle.std.specs.Prelude.{◌≡◌, ◌<◌, [], ◌∷◌, length, map, IfOk};
 ghost use Rattle.std.specs.List.{All};
-ghost use Rattle.ot_plain.specs.Table.{Extends};
-ghost use Rattle.ot_plain.specs.declared.command.Cmd.TheVariants as words;
+ghost use Rattle.ot_logic.specs.Table.{Extends};
+ghost use Rattle.ot_logic.specs.declared.command.Cmd.TheVariants as words;
 ghost use Rattle.ot_nodes.specs.Items.{IsTerm, HasTerm, type_at, term_at};
 ghost use Rattle.ot_machine.specs.Meaning.{origin_of, IsRun};
 ghost use Rattle.ot_values.specs.Steps.{IsNameOf, IsSymbolOf, IsMadeOf};
 ghost use Rattle.ot_values.specs.Lists.{AreElementsOf};
 
+use ot_logic::{Cmd, Memory};
 use ot_machine::Session;
 use ot_nodes::{NameId, Nodes};
 use ot_parse::copy_name;
-use ot_plain::{Cmd, Memory};
 use ot_trace::{Step, StepId};
 use std::alloc::Global;
 

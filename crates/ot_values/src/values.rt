@@ -1,9 +1,9 @@
 //! Variables, types and terms.
 ghost use Rattle.std.specs.Prelude.{◌≡◌, ◌<◌, ℕ, List, length, IfOk};
-ghost use Rattle.ot_plain.specs.Naming.{names};
-ghost use Rattle.ot_plain.specs.Table.{Extends};
-ghost use Rattle.ot_plain.specs.Trees.{Abs};
-ghost use Rattle.ot_plain.specs.Hol.{close};
+ghost use Rattle.ot_logic.specs.Naming.{names};
+ghost use Rattle.ot_logic.specs.Table.{Extends};
+ghost use Rattle.ot_logic.specs.Trees.{Abs};
+ghost use Rattle.ot_logic.specs.Hol.{close};
 ghost use Rattle.ot_nodes.specs.Items.{Item, IsTerm, HasTerm, type_at, term_at};
 ghost use Rattle.ot_nodes.specs.Changing.{variable_at, HasVariable};
 ghost use Rattle.ot_machine.specs.Meaning.{IsRun};
@@ -14,9 +14,9 @@ ghost use Rattle.ot_values.specs.Known.{AreKnown};
 
 use crate::steps::{constant, elements, making, name, one, two, type_operator};
 use indexmap::IndexMap;
+use ot_logic::{Cmd, Memory};
 use ot_machine::Session;
 use ot_nodes::{Change, Done, Nodes, TermId, TypeId, VariableNode};
-use ot_plain::{Cmd, Memory};
 use ot_trace::StepId;
 use std::alloc::Global;
 

@@ -4,12 +4,12 @@ use Rattle.std.proofs.Common.{Result, ◌≡◌, ℕ, Bool, true, false, List, [
 use Rattle.std.proofs.Common.{◌∷◌, ◌++◌, map, Ok, Err, sym, ap, ◌∙◌, subst}
 use Rattle.std.proofs.lemmas.List.{map-append, map_push}
 use Rattle.std.proofs.lemmas.List.Elements.{All-nil, All-cons, All-push, All-append}
-use Rattle.ot_plain.specs.Names.{Name}
-use Rattle.ot_plain.specs.Naming.{names}
-use Rattle.ot_plain.specs.Lists.{IsMember}
-use Rattle.ot_plain.specs.Trees.{Tm, Sequent, Definition}
-use Rattle.ot_plain.specs.Hol.{bool_ty, HasType as IsOfType, IsWellTyped, IsSequent, theorems}
-use Rattle.ot_plain.specs.Answers.{◌>>=◌, unless}
+use Rattle.ot_logic.specs.Names.{Name}
+use Rattle.ot_logic.specs.Naming.{names}
+use Rattle.ot_logic.specs.Lists.{IsMember}
+use Rattle.ot_logic.specs.Trees.{Tm, Sequent, Definition}
+use Rattle.ot_logic.specs.Hol.{bool_ty, HasType as IsOfType, IsWellTyped, IsSequent, theorems}
+use Rattle.ot_logic.specs.Answers.{◌>>=◌, unless}
 use Rattle.ot_laws.specs.Theorem.{IsTheorem}
 use Rattle.ot_laws.proofs.Tests.{tells_names}
 use Rattle.ot_laws.proofs.Theorems.{defined-theorem}
@@ -25,8 +25,8 @@ use Rattle.ot_rules.specs.Accepting.{accepted_at, HasAccepted}
 use Rattle.ot_rules.specs.declared.definition.Accepted.{Accepted}
 use Rattle.ot_verify.specs.Held.{Held, state_of, IsAcceptable, IsLog}
 use Rattle.ot_verify.proofs.Sound.{sound-stated, sound-here, premise-stated, acceptable-stated}
-use Rattle.ot_plain.proofs.Members.{All-from_members, IsMember-map, IsMember-place}
-use Rattle.ot_plain.proofs.Results.{same_Ok}
+use Rattle.ot_logic.proofs.Members.{All-from_members, IsMember-map, IsMember-place}
+use Rattle.ot_logic.proofs.Results.{same_Ok}
 
 -- ---- terms of theorems are well typed
 all-typed : (ts : List (Tm Name)) → AllByRecursion (λ h. IsOfType names h (bool_ty names)) ts

@@ -2,8 +2,8 @@
 use Rattle.std.specs.Prelude.{Result, Ok, Err, IsErrAnd, Option, Some, None}
 use Rattle.std.proofs.Common.{◌≡◌, ℕ, suc, List, [], ◌∷◌, ◌++◌, sym, ap, subst, ◌∙◌, append_assoc, arith}
 use Rattle.std.proofs.lemmas.List.{append-nil}
-use Rattle.ot_plain.specs.Names.{Name}
-use Rattle.ot_plain.specs.Naming.{names}
+use Rattle.ot_logic.specs.Names.{Name}
+use Rattle.ot_logic.specs.Naming.{names}
 use Rattle.ot_records.specs.State.{LogState}
 use Rattle.ot_records.specs.Records.{RecordForm, AskCount, ask_each, ask_list}
 use Rattle.ot_verify.specs.Taking.{Rest, rest}

@@ -1,8 +1,8 @@
 -- The check of a log, from one record to the next, over a source that may tell its bytes.
 use Rattle.std.specs.Prelude.{Ok, Err, Option, Some, None, IfSome}
 use Rattle.std.proofs.Common.{◌≡◌, ℕ, List, [], sym, ap, ◌∙◌}
-use Rattle.ot_plain.specs.Names.{Name}
-use Rattle.ot_plain.specs.Naming.{names}
+use Rattle.ot_logic.specs.Names.{Name}
+use Rattle.ot_logic.specs.Naming.{names}
 use Rattle.ot_records.specs.State.{LogState, nothing_made}
 use Rattle.ot_records.specs.Records.{form}
 use Rattle.ot_records.specs.Check.{AtFirst, Between, check}

@@ -4,13 +4,13 @@ use Rattle.std.specs.List.{All, list_all}
 use Rattle.std.proofs.Common.{◌≡◌, ℕ, Bool, true, false, Option, Some, List, [], ◌∷◌, ◌++◌}
 use Rattle.std.proofs.Common.{map, slice_get, Result, Ok, Err, sym, ap, ◌∙◌, subst, inl, inr}
 use Rattle.std.proofs.lemmas.Bool.{and_parts}
-use Rattle.ot_plain.specs.Names.{Name}
-use Rattle.ot_plain.specs.Naming.{names}
-use Rattle.ot_plain.specs.Lists.{IsMember}
-use Rattle.ot_plain.specs.Table.{Extends}
-use Rattle.ot_plain.specs.Trees.{Tm, Sequent}
-use Rattle.ot_plain.specs.Hol.{bool_ty, IsWellTyped, depth_ty, depth_tm, once_each}
-use Rattle.ot_plain.specs.Answers.{unless}
+use Rattle.ot_logic.specs.Names.{Name}
+use Rattle.ot_logic.specs.Naming.{names}
+use Rattle.ot_logic.specs.Lists.{IsMember}
+use Rattle.ot_logic.specs.Table.{Extends}
+use Rattle.ot_logic.specs.Trees.{Tm, Sequent}
+use Rattle.ot_logic.specs.Hol.{bool_ty, IsWellTyped, depth_ty, depth_tm, once_each}
+use Rattle.ot_logic.specs.Answers.{unless}
 use Rattle.ot_laws.specs.Theorem.{IsTheorem}
 use Rattle.ot_laws.proofs.Hypotheses.{IsMember-once_each}
 use Rattle.ot_laws.proofs.Tests.{tells_names}
@@ -45,8 +45,8 @@ use Rattle.ot_verify.proofs.Adding.{definition-made, definition-deep, with-defin
 use Rattle.ot_verify.proofs.Logging.{held_of, IsKept, accepted-stays, still-accepted, state-stays, log-grown}
 use Rattle.ot_verify.proofs.Logging.{log-kept, sequent-here, theorem-now, state-then, with-type, type-made, type-deep}
 use Rattle.ot_verify.proofs.Logging.{with-term, term-made, term-deep, with-sequent, sequent-made, sequent-deep}
-use Rattle.ot_plain.proofs.Members.{All-from_members}
-use Rattle.ot_plain.proofs.Results.{bind-ok, same_Ok, unless-ok}
+use Rattle.ot_logic.proofs.Members.{All-from_members}
+use Rattle.ot_logic.proofs.Results.{bind-ok, same_Ok, unless-ok}
 use Rattle.std.proofs.lemmas.List.{map_push}
 
 -- a change of the same thing

@@ -4,13 +4,13 @@ use Rattle.std.proofs.Common.{◌≡◌, ℕ, Bool, true, false, List, [], ◌�
 use Rattle.std.proofs.Common.{Some, None, Result, Ok, Err, sym, ap, ◌∙◌, subst, zero, suc, inl, inr}
 use Rattle.std.proofs.lemmas.Option.{same_Some}
 use Rattle.std.proofs.lemmas.List.Elements.{All-nil, All-push, All-weaker}
-use Rattle.ot_plain.specs.Names.{Name}
-use Rattle.ot_plain.specs.Naming.{names}
-use Rattle.ot_plain.specs.Lists.{IsMember}
-use Rattle.ot_plain.specs.Trees.{Ty, Tm, Sequent}
-use Rattle.ot_plain.specs.Hol.{depth_ty, depth_tm, theorems}
-use Rattle.ot_plain.specs.Answers.{◌>>=◌, unless}
-use Rattle.ot_plain.specs.Table.{Extends}
+use Rattle.ot_logic.specs.Names.{Name}
+use Rattle.ot_logic.specs.Naming.{names}
+use Rattle.ot_logic.specs.Lists.{IsMember}
+use Rattle.ot_logic.specs.Trees.{Ty, Tm, Sequent}
+use Rattle.ot_logic.specs.Hol.{depth_ty, depth_tm, theorems}
+use Rattle.ot_logic.specs.Answers.{◌>>=◌, unless}
+use Rattle.ot_logic.specs.Table.{Extends}
 use Rattle.ot_laws.specs.Theorem.{IsTheorem}
 use Rattle.ot_records.specs.Tokens as stated
 use Rattle.ot_records.specs.Steps.{Step, log_depth, is_sequent_within}
@@ -39,8 +39,8 @@ use Rattle.ot_verify.specs.Held.{Held, state_of, view_of, IsSound, IsLog, IsWhol
 use Rattle.ot_verify.proofs.Sound.{sound-here}
 use Rattle.ot_verify.specs.declared.log.Log.TheInside.{Inside}
 use Rattle.ot_verify.specs.declared.log.Refusal.{Refusal}
-use Rattle.ot_plain.proofs.Elements.{All-slice_get, slice_get-map}
-use Rattle.ot_plain.proofs.Members.{IsMember-at, IsMember-cases}
+use Rattle.ot_logic.proofs.Elements.{All-slice_get, slice_get-map}
+use Rattle.ot_logic.proofs.Members.{IsMember-at, IsMember-cases}
 use Rattle.std.proofs.lemmas.List.{map_push}
 
 -- ---- places

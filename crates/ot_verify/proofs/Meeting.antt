@@ -1,6 +1,6 @@
 -- Names that are met while a record is read.
 use Rattle.std.proofs.Common.{◌∙◌, refl}
-use Rattle.ot_plain.proofs.TableLemmas.{Extends-refl, Extends-trans}
+use Rattle.ot_logic.proofs.TableLemmas.{Extends-refl, Extends-trans}
 use Rattle.ot_verify.specs.Logged.{LogView, MeetsNames}
 
 pub meets-nothing : (l : LogView) → MeetsNames l l

@@ -1,7 +1,7 @@
 -- A name that was read, by its number.
 use Rattle.std.specs.Prelude.{Ok, Err, Option, Some, None}
 use Rattle.std.proofs.Common.{ℕ, List, ap, ◌∙◌}
-use Rattle.ot_plain.specs.Names.{Name}
+use Rattle.ot_logic.specs.Names.{Name}
 use Rattle.ot_records.specs.State.{LogState}
 use Rattle.ot_records.specs.Records.{AskName}
 use Rattle.ot_nodes.specs.Items.{NameItem}

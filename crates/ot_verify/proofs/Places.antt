@@ -3,8 +3,8 @@ use Rattle.std.specs.Prelude.{IsErrAnd}
 use Rattle.std.proofs.Common.{◌≡◌, Option, Some, None, refl, Result, Ok, Err, ℕ, zero, suc, ◌+◌, ◌<◌, ◌≤◌}
 use Rattle.std.proofs.Common.{List, [], ◌∷◌, ◌++◌, length, get_or, take, sym, subst, arith}
 use Rattle.std.proofs.lemmas.List.{take_more, take_all}
-use Rattle.ot_plain.specs.Names.{Name}
-use Rattle.ot_plain.specs.Naming.{names}
+use Rattle.ot_logic.specs.Names.{Name}
+use Rattle.ot_logic.specs.Naming.{names}
 use Rattle.ot_records.specs.State.{LogState, Change}
 use Rattle.ot_verify.specs.Asking.{AreEach}
 use Rattle.ot_verify.specs.Finding.{FindsEach}

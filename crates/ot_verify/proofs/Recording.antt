@@ -1,9 +1,9 @@
 -- A record, token after token.
 use Rattle.std.specs.Prelude.{Ok, Err, Result, Option, Some, None}
 use Rattle.std.proofs.Common.{◌≡◌, ℕ, List, ap, ◌∙◌}
-use Rattle.ot_plain.specs.Names.{Name}
-use Rattle.ot_plain.specs.Naming.{names}
-use Rattle.ot_plain.specs.Answers.{◌>>=◌}
+use Rattle.ot_logic.specs.Names.{Name}
+use Rattle.ot_logic.specs.Naming.{names}
+use Rattle.ot_logic.specs.Answers.{◌>>=◌}
 use Rattle.ot_records.specs.Tokens as stated
 use Rattle.ot_records.specs.State.{LogState, Change}
 use Rattle.ot_records.specs.Records.{RecordForm, Makes}

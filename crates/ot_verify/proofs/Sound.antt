@@ -1,8 +1,8 @@
 -- What is proved of the records of a log, as the check says it.
 use Rattle.std.proofs.Common.{List}
-use Rattle.ot_plain.specs.Names.{Name}
-use Rattle.ot_plain.specs.Naming.{names}
-use Rattle.ot_plain.specs.Trees.{Sequent, Definition, ConDef, ListDef, TyDef}
+use Rattle.ot_logic.specs.Names.{Name}
+use Rattle.ot_logic.specs.Naming.{names}
+use Rattle.ot_logic.specs.Trees.{Sequent, Definition, ConDef, ListDef, TyDef}
 use Rattle.ot_laws.proofs.Definitions as laws
 use Rattle.ot_records.specs.State.{LogState}
 use Rattle.ot_records.proofs.StateSound as records

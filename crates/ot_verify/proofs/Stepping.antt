@@ -1,10 +1,10 @@
 -- A step over operands of a log: what it gives follows, and the record makes it.
 use Rattle.std.specs.Prelude.{◌≡◌, ℕ, List, slice_get, Some, Ok, Result}
 use Rattle.std.proofs.Common.{ap, subst}
-use Rattle.ot_plain.specs.Names.{Name}
-use Rattle.ot_plain.specs.Naming.{names}
-use Rattle.ot_plain.specs.Trees.{Tm, Sequent, Definition}
-use Rattle.ot_plain.specs.Table.{Extends}
+use Rattle.ot_logic.specs.Names.{Name}
+use Rattle.ot_logic.specs.Naming.{names}
+use Rattle.ot_logic.specs.Trees.{Tm, Sequent, Definition}
+use Rattle.ot_logic.specs.Table.{Extends}
 use Rattle.ot_laws.specs.Theorem.{IsTheorem}
 use Rattle.ot_records.specs.Steps.{Step}
 use Rattle.ot_records.specs.State.{makes_sequent}

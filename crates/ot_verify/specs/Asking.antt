@@ -1,7 +1,7 @@
 -- What a record asks for, as the code reads it.
 use Rattle.std.specs.Prelude.{◌≡◌, ℕ, List, [], ◌∷◌, ◌++◌, Result, Ok, Err, Option, Some, None, slice_get}
-use Rattle.ot_plain.specs.Names.{Name}
-use Rattle.ot_plain.specs.Naming.{names}
+use Rattle.ot_logic.specs.Names.{Name}
+use Rattle.ot_logic.specs.Naming.{names}
 use Rattle.ot_records.specs.State.{LogState}
 use Rattle.ot_records.specs.Records.{RecordForm, ask_each, ask_list}
 use Rattle.ot_records.specs.Check.{Outcome, Stops, settled, go_on, check}

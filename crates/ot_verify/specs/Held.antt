@@ -1,8 +1,8 @@
 -- What the tables of a log hold.
 use Rattle.std.specs.Prelude.{◌≡◌, ℕ, List, map, Option, Result, Ok, Err}
 use Rattle.std.specs.List.{All}
-use Rattle.ot_plain.specs.Names.{Name}
-use Rattle.ot_plain.specs.Naming.{names}
+use Rattle.ot_logic.specs.Names.{Name}
+use Rattle.ot_logic.specs.Naming.{names}
 use Rattle.ot_laws.specs.Theorem.{IsTheorem}
 use Rattle.ot_records.specs.State.{LogState, makes_sequent, makes_definition}
 use Rattle.ot_nodes.specs.Items.{Item, HasType, HasTerm, type_at, term_at}
@@ -20,9 +20,9 @@ use Rattle.ot_rules.specs.declared.statement.Statement.{Statement}
 use Rattle.ot_rules.specs.declared.statement.StepFault.{StepFault}
 use Rattle.ot_rules.specs.declared.statement.StepFault.TheVariants as step
 use Rattle.std.specs.Global.{Vec}
-use Rattle.ot_plain.specs.Lists.{IsMember, AreDistinct}
-use Rattle.ot_plain.specs.Trees.{Sequent, Definition, ConDef, ListDef, TyDef}
-use Rattle.ot_plain.specs.Hol.{theorems, Accepted as AreAccepted, IsNext, IsSequent}
+use Rattle.ot_logic.specs.Lists.{IsMember, AreDistinct}
+use Rattle.ot_logic.specs.Trees.{Sequent, Definition, ConDef, ListDef, TyDef}
+use Rattle.ot_logic.specs.Hol.{theorems, Accepted as AreAccepted, IsNext, IsSequent}
 use Rattle.ot_verify.specs.Logged.{LogView, MadeBy}
 use Rattle.ot_verify.specs.declared.log.Refusal.{Refusal}
 use Rattle.ot_verify.specs.declared.log.Refusal.TheVariants as refusals

@@ -1,7 +1,7 @@
 -- What stands for something in a log stands for it after names were added.
 use Rattle.std.proofs.Common.{ℕ, slice_get, ap, ◌∙◌}
-use Rattle.ot_plain.specs.Names.{Name}
-use Rattle.ot_plain.specs.Trees.{Ty, Tm, Variable}
+use Rattle.ot_logic.specs.Names.{Name}
+use Rattle.ot_logic.specs.Trees.{Ty, Tm, Variable}
 use Rattle.ot_records.specs.State.{LogState}
 use Rattle.ot_verify.specs.Asking.{IsAt}
 use Rattle.ot_verify.specs.Logged.{LogView, IsNamed, IsVariable, IsTypePair, IsTermPair, IsConstantPair, MeetsNames}

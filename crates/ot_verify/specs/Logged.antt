@@ -1,15 +1,15 @@
 -- What contracts see of a log that is checked, and what its records do.
 use Rattle.std.specs.Prelude.{◌≡◌, ℕ, List, Result, Ok, Err, Option, Some, None, slice_get, refl}
 use Rattle.std.specs.Coded.{Coded, code_by, coded×, coded_list}
-use Rattle.ot_plain.specs.Table.{Extends}
+use Rattle.ot_logic.specs.Table.{Extends}
 use Rattle.ot_nodes.specs.Items.{Item, coded_item, IsName}
-use Rattle.ot_plain.specs.Trees.{Ty, Variable, Tm, Sequent, Definition}
+use Rattle.ot_logic.specs.Trees.{Ty, Variable, Tm, Sequent, Definition}
 use Rattle.ot_verify.specs.declared.operand.NamedType.{NamedType}
 use Rattle.ot_verify.specs.declared.operand.TermPair.{TermPair}
 use Rattle.ot_verify.specs.declared.operand.ConstantPair.{ConstantPair}
-use Rattle.ot_plain.specs.Codes.{coded_name, coded_ty, coded_tm, coded_sequent, coded_definition}
-use Rattle.ot_plain.specs.Names.{Name}
-use Rattle.ot_plain.specs.Naming.{names}
+use Rattle.ot_logic.specs.Codes.{coded_name, coded_ty, coded_tm, coded_sequent, coded_definition}
+use Rattle.ot_logic.specs.Names.{Name}
+use Rattle.ot_logic.specs.Naming.{names}
 use Rattle.ot_records.specs.Tokens as stated
 use Rattle.ot_records.specs.State.{LogState, Change}
 use Rattle.ot_records.specs.Records.{RecordForm}

@@ -1,5 +1,5 @@
 ghost use Rattle.std.specs.Prelude.{◌≡◌, ◌≤◌, ◌<◌, ◌^◌, ◌++◌, [], length, Err, IfOk, OnOk, OnErr, IfSome};
-ghost use Rattle.ot_io.specs.Causes.{Rose};
+ghost use Rattle.ot_io.specs.Causes.{CountRose};
 ghost use Rattle.ot_io.specs.Keeping.{KeepsSource};
 ghost use Rattle.ot_verify.specs.Reading.{log_check};
 ghost use Rattle.ot_text.specs.Pages.{Appended};
@@ -62,7 +62,7 @@ pub fn verify<S: Source>(
     ensures checked { IfSome (S.left source.old) (λ bytes. Verifies result (log_check max_bytes bytes)) }
     ensures proved { IfOk result AreProved }
     ensures spent { OnOk result (IfSome (S.left source.old) (λ _. IfSome (S.left source.new) (λ bytes. bytes ≡ []))) }
-    ensures cause { result ≡ Err VerifyFault.ReadFault → Rose (S.faults source.old) (S.faults source.new) }
+    ensures cause { result ≡ Err VerifyFault.ReadFault → CountRose (S.faults source.old) (S.faults source.new) }
     ensures kept { KeepsSource S.folder S.faults S.misses S.at source.old source.new }
 {
     let mut log = Log::new(alloc)?;

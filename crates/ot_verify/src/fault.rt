@@ -1,7 +1,7 @@
 ghost use Rattle.std.specs.Prelude.{◌≡◌};
 ghost use Rattle.ot_verify.specs.declared.fault.VerifyFault.TheVariants.{Memory as OutOfMemory};
 
-use ot_plain::Memory;
+use ot_logic::Memory;
 use std::alloc::{AllocError, AllocFailed};
 
 /// Why a log is refused.

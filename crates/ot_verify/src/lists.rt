@@ -1,10 +1,10 @@
 //! Lists of what records ask for.
 ghost use Rattle.std.specs.Prelude.{◌≡◌, Bool, true, false, Err, IfOk};
-ghost use Rattle.ot_io.specs.Causes.{Rose};
+ghost use Rattle.ot_io.specs.Causes.{CountRose};
 ghost use Rattle.ot_io.specs.Keeping.{KeepsSource};
-ghost use Rattle.ot_plain.specs.Names.{Name};
-ghost use Rattle.ot_plain.specs.Naming.{names};
-ghost use Rattle.ot_plain.specs.Trees.{Ty, Tm, Variable};
+ghost use Rattle.ot_logic.specs.Names.{Name};
+ghost use Rattle.ot_logic.specs.Naming.{names};
+ghost use Rattle.ot_logic.specs.Trees.{Ty, Tm, Variable};
 ghost use Rattle.ot_records.specs.Records.{RecordForm, AskName, AskType, AskTerm, ask_list};
 ghost use Rattle.ot_records.specs.Records.{ask_type_pair, ask_term_pair, ask_constant_pair};
 ghost use Rattle.ot_verify.specs.Asking.{AnsweredFrom, IsAt, AreEach};
@@ -51,7 +51,7 @@ pub(crate) trait Operand {
         ensures meets { MeetsNames log.old log.new }
         ensures unchanged { Self.adds_names ≡ false → log.new ≡ log.old }
         ensures advances { IfOk result (λ _. Advances reader.old reader.new) }
-        ensures cause { result ≡ Err VerifyFault.ReadFault → Rose (S.faults source.old) (S.faults source.new) }
+        ensures cause { result ≡ Err VerifyFault.ReadFault → CountRose (S.faults source.old) (S.faults source.new) }
         ensures kept { KeepsSource S.folder S.faults S.misses S.at source.old source.new };
 
     /// An item stands for the same in the log to which names were added.
@@ -220,7 +220,7 @@ pub(crate) fn list<T: Operand, S: Source>(
     ensures meets { MeetsNames log.old log.new }
     ensures unchanged { T.adds_names ≡ false → log.new ≡ log.old }
     ensures advances { IfOk result (λ _. Advances reader.old reader.new) }
-    ensures cause { result ≡ Err VerifyFault.ReadFault → Rose (S.faults source.old) (S.faults source.new) }
+    ensures cause { result ≡ Err VerifyFault.ReadFault → CountRose (S.faults source.old) (S.faults source.new) }
     ensures kept { KeepsSource S.folder S.faults S.misses S.at source.old source.new }
 {
     let count = match reader.count(alloc, source) {

@@ -2,9 +2,9 @@
 ghost use Rattle.std.specs.Prelude.{◌≡◌, ◌<◌, ◌≤◌, ◌+◌, ◌++◌, ◌∷◌, [], List, length, slice_get, map, vec_len};
 ghost use Rattle.std.specs.Prelude.{vec_capacity, Ok, Err, Some, None, IfOk, OnOk, OnErr, MatchResult};
 ghost use Rattle.std.specs.List.{All};
-ghost use Rattle.ot_plain.specs.Names.{Name as NameValue};
-ghost use Rattle.ot_plain.specs.Naming.{names};
-ghost use Rattle.ot_plain.specs.Trees.{Ty, TyVar, TyOp, Variable, Tm, Free, Con, Bound, App, Abs, Sequent};
+ghost use Rattle.ot_logic.specs.Names.{Name as NameValue};
+ghost use Rattle.ot_logic.specs.Naming.{names};
+ghost use Rattle.ot_logic.specs.Trees.{Ty, TyVar, TyOp, Variable, Tm, Free, Con, Bound, App, Abs, Sequent};
 ghost use Rattle.ot_records.specs.Steps.{refl_step, assume_step, eq_mp_step, abs_thm_step, app_thm_step};
 ghost use Rattle.ot_records.specs.Steps.{deduct_antisym_step, beta_step, subst_step, assumption_step};
 ghost use Rattle.ot_records.specs.Steps.{constant_step, constants_step, type_operator_step};
@@ -27,8 +27,8 @@ use crate::finding::{
 };
 use crate::operand::{ConstantPair, NamedType, TermPair};
 use ot_listing::{PrintFault, summary_text};
+use ot_logic::{Memory, Name};
 use ot_nodes::{DEPTH_LIMIT, NameId, Nodes, TermId, TypeId, Typings};
-use ot_plain::{Memory, Name};
 use ot_rules::{
     Accepted, Definition, Kept, Signature, Statement, StepFault, abs_thm, app_thm,
     are_statements_within, assume, assumption, beta_conv, constant, constants, copied,

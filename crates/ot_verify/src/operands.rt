@@ -1,6 +1,6 @@
 //! What records ask for: names, the numbers of earlier types, terms and sequents, and names with types.
 ghost use Rattle.std.specs.Prelude.{◌≡◌, Err, IfOk};
-ghost use Rattle.ot_io.specs.Causes.{Rose};
+ghost use Rattle.ot_io.specs.Causes.{CountRose};
 ghost use Rattle.ot_io.specs.Keeping.{KeepsSource};
 ghost use Rattle.ot_records.specs.Records.{AskName, AskType, AskTerm, AskSequent, ask_variable, ask_type_pair};
 ghost use Rattle.ot_verify.specs.Asking.{AnsweredFrom, IsAt};
@@ -26,7 +26,7 @@ pub(crate) fn name_number<S: Source>(
         reader.old reader.new (S.left source.old) (S.left source.new) }
     ensures meets { MeetsNames log.old log.new }
     ensures advances { IfOk result (λ _. Advances reader.old reader.new) }
-    ensures cause { result ≡ Err VerifyFault.ReadFault → Rose (S.faults source.old) (S.faults source.new) }
+    ensures cause { result ≡ Err VerifyFault.ReadFault → CountRose (S.faults source.old) (S.faults source.new) }
     ensures kept { KeepsSource S.folder S.faults S.misses S.at source.old source.new }
 {
     match reader.name(alloc, source) {
@@ -48,7 +48,7 @@ pub(crate) fn type_number<S: Source>(
     ensures answered { AnsweredFrom log.now.state AskType (IsAt log.now.state.types) result
         reader.old reader.new (S.left source.old) (S.left source.new) }
     ensures advances { IfOk result (λ _. Advances reader.old reader.new) }
-    ensures cause { result ≡ Err VerifyFault.ReadFault → Rose (S.faults source.old) (S.faults source.new) }
+    ensures cause { result ≡ Err VerifyFault.ReadFault → CountRose (S.faults source.old) (S.faults source.new) }
     ensures kept { KeepsSource S.folder S.faults S.misses S.at source.old source.new }
 {
     reader.earlier(alloc, source, log.type_count())
@@ -64,7 +64,7 @@ pub(crate) fn term_number<S: Source>(
     ensures answered { AnsweredFrom log.now.state AskTerm (IsAt log.now.state.terms) result
         reader.old reader.new (S.left source.old) (S.left source.new) }
     ensures advances { IfOk result (λ _. Advances reader.old reader.new) }
-    ensures cause { result ≡ Err VerifyFault.ReadFault → Rose (S.faults source.old) (S.faults source.new) }
+    ensures cause { result ≡ Err VerifyFault.ReadFault → CountRose (S.faults source.old) (S.faults source.new) }
     ensures kept { KeepsSource S.folder S.faults S.misses S.at source.old source.new }
 {
     reader.earlier(alloc, source, log.term_count())
@@ -80,7 +80,7 @@ pub(crate) fn sequent_number<S: Source>(
     ensures answered { AnsweredFrom log.now.state AskSequent (IsAt log.now.state.sequents) result
         reader.old reader.new (S.left source.old) (S.left source.new) }
     ensures advances { IfOk result (λ _. Advances reader.old reader.new) }
-    ensures cause { result ≡ Err VerifyFault.ReadFault → Rose (S.faults source.old) (S.faults source.new) }
+    ensures cause { result ≡ Err VerifyFault.ReadFault → CountRose (S.faults source.old) (S.faults source.new) }
     ensures kept { KeepsSource S.folder S.faults S.misses S.at source.old source.new }
 {
     reader.earlier(alloc, source, log.sequent_count())
@@ -99,7 +99,7 @@ pub(crate) fn named_type<S: Source>(
         reader.old reader.new (S.left source.old) (S.left source.new) }
     ensures meets { MeetsNames log.old log.new }
     ensures advances { IfOk result (λ _. Advances reader.old reader.new) }
-    ensures cause { result ≡ Err VerifyFault.ReadFault → Rose (S.faults source.old) (S.faults source.new) }
+    ensures cause { result ≡ Err VerifyFault.ReadFault → CountRose (S.faults source.old) (S.faults source.new) }
     ensures kept { KeepsSource S.folder S.faults S.misses S.at source.old source.new }
 {
     let name = name_number(alloc, log, reader, source)?;

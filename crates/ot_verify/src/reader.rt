@@ -1,9 +1,9 @@
 ghost use Rattle.std.specs.Prelude.{◌≡◌, ◌<◌, ◌≤◌, ◌^◌, ℕ, length, slice_index, [], Err, IfOk, IfSome, OnOk};
-ghost use Rattle.ot_io.specs.Causes.{Rose};
+ghost use Rattle.ot_io.specs.Causes.{CountRose};
 ghost use Rattle.ot_io.specs.Keeping.{KeepsSource};
 ghost use Rattle.ot_records.specs.State.{LogState};
 ghost use Rattle.ot_records.specs.Records.{AskName, AskCount, AskType, AskTerm, AskSequent};
-ghost use Rattle.ot_plain.specs.Names.{Name as NameValue};
+ghost use Rattle.ot_logic.specs.Names.{Name as NameValue};
 ghost use Rattle.ot_verify.specs.Reading.{token};
 ghost use Rattle.ot_verify.specs.Taking.{TakesFrom, SpendsAt, TakesText, ReadsName, stopped};
 ghost use Rattle.ot_verify.specs.Asking.{AnsweredFrom, IsValue, IsAt};
@@ -12,7 +12,7 @@ ghost use Rattle.ot_verify.specs.Going.{HeadsFrom, BeginsFrom, Spends, Advances}
 use crate::fault::{LogFault, VerifyFault};
 use crate::token::{Token, read_token};
 use ot_io::Source;
-use ot_plain::{Name, NameFault};
+use ot_logic::{Name, NameFault};
 use ot_records::RecordWord;
 use ot_scan::{Lines, ScanFault};
 use std::alloc::Global;
@@ -60,7 +60,7 @@ impl Reader {
         ensures taken { TakesFrom result self.old self.new (S.left source.old) (S.left source.new) }
         ensures spent { SpendsAt result (S.left source.old) (S.left source.new) }
         ensures advances { IfOk result (λ o. IfSome o (λ _. Advances self.old self.new)) }
-        ensures cause { result ≡ Err VerifyFault.ReadFault → Rose (S.faults source.old) (S.faults source.new) }
+        ensures cause { result ≡ Err VerifyFault.ReadFault → CountRose (S.faults source.old) (S.faults source.new) }
         ensures kept { KeepsSource S.folder S.faults S.misses S.at source.old source.new }
     {
         match self.lines.next(source) {
@@ -83,7 +83,7 @@ impl Reader {
         ensures answered { (st : LogState NameValue)
             → AnsweredFrom st AskName IsValue result self.old self.new (S.left source.old) (S.left source.new) }
         ensures advances { IfOk result (λ _. Advances self.old self.new) }
-        ensures cause { result ≡ Err VerifyFault.ReadFault → Rose (S.faults source.old) (S.faults source.new) }
+        ensures cause { result ≡ Err VerifyFault.ReadFault → CountRose (S.faults source.old) (S.faults source.new) }
         ensures kept { KeepsSource S.folder S.faults S.misses S.at source.old source.new }
     {
         match self.take(alloc, source)? {
@@ -102,7 +102,7 @@ impl Reader {
         ensures answered { (st : LogState NameValue)
             → AnsweredFrom st AskCount IsValue result self.old self.new (S.left source.old) (S.left source.new) }
         ensures advances { IfOk result (λ _. Advances self.old self.new) }
-        ensures cause { result ≡ Err VerifyFault.ReadFault → Rose (S.faults source.old) (S.faults source.new) }
+        ensures cause { result ≡ Err VerifyFault.ReadFault → CountRose (S.faults source.old) (S.faults source.new) }
         ensures kept { KeepsSource S.folder S.faults S.misses S.at source.old source.new }
     {
         match self.take(alloc, source)? {
@@ -129,7 +129,7 @@ impl Reader {
         ensures sequents { (st : LogState NameValue) → count ≡ length st.sequents
             → AnsweredFrom st AskSequent (IsAt st.sequents) result
             self.old self.new (S.left source.old) (S.left source.new) }
-        ensures cause { result ≡ Err VerifyFault.ReadFault → Rose (S.faults source.old) (S.faults source.new) }
+        ensures cause { result ≡ Err VerifyFault.ReadFault → CountRose (S.faults source.old) (S.faults source.new) }
         ensures kept { KeepsSource S.folder S.faults S.misses S.at source.old source.new }
     {
         match self.take(alloc, source)? {
@@ -153,7 +153,7 @@ impl Reader {
     ) -> Result<(), VerifyFault>
         ensures heads { HeadsFrom result self.old self.new (S.left source.old) (S.left source.new) }
         ensures advances { OnOk result (Advances self.old self.new) }
-        ensures cause { result ≡ Err VerifyFault.ReadFault → Rose (S.faults source.old) (S.faults source.new) }
+        ensures cause { result ≡ Err VerifyFault.ReadFault → CountRose (S.faults source.old) (S.faults source.new) }
         ensures kept { KeepsSource S.folder S.faults S.misses S.at source.old source.new }
     {
         match self.take(alloc, source)? {
@@ -182,7 +182,7 @@ impl Reader {
         ensures begins { BeginsFrom result self.old self.new (S.left source.old) (S.left source.new) }
         ensures spent { Spends result (S.left source.old) (S.left source.new) }
         ensures advances { IfOk result (λ o. IfSome o (λ _. Advances self.old self.new)) }
-        ensures cause { result ≡ Err VerifyFault.ReadFault → Rose (S.faults source.old) (S.faults source.new) }
+        ensures cause { result ≡ Err VerifyFault.ReadFault → CountRose (S.faults source.old) (S.faults source.new) }
         ensures kept { KeepsSource S.folder S.faults S.misses S.at source.old source.new }
     {
         match self.take(alloc, source)? {

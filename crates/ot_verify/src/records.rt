@@ -1,8 +1,8 @@
 //! The records of a log: what each asks for is read, and then it makes what it makes.
 ghost use Rattle.std.specs.Prelude.{◌≡◌, Err, OnOk};
-ghost use Rattle.ot_io.specs.Causes.{Rose};
+ghost use Rattle.ot_io.specs.Causes.{CountRose};
 ghost use Rattle.ot_io.specs.Keeping.{KeepsSource};
-ghost use Rattle.ot_plain.specs.Naming.{names};
+ghost use Rattle.ot_logic.specs.Naming.{names};
 ghost use Rattle.ot_records.specs.Records.{form};
 ghost use Rattle.ot_verify.specs.Logged.{RecordedFrom, refused, settled_at};
 ghost use Rattle.ot_verify.specs.Going.{Advances};
@@ -30,7 +30,7 @@ pub(crate) fn take_record<S: Source>(
     ensures recorded { RecordedFrom result (form names word) first log.old.state log.new.state
         reader.old reader.new (S.left source.old) (S.left source.new) }
     ensures advances { OnOk result (Advances reader.old reader.new) }
-    ensures cause { result ≡ Err VerifyFault.ReadFault → Rose (S.faults source.old) (S.faults source.new) }
+    ensures cause { result ≡ Err VerifyFault.ReadFault → CountRose (S.faults source.old) (S.faults source.new) }
     ensures kept { KeepsSource S.folder S.faults S.misses S.at source.old source.new }
 {
     match word {
@@ -68,7 +68,7 @@ fn bound<S: Source>(
     ensures recorded { RecordedFrom result (form names RecordWord.Bound) first log.old.state log.new.state
         reader.old reader.new (S.left source.old) (S.left source.new) }
     ensures advances { OnOk result (Advances reader.old reader.new) }
-    ensures cause { result ≡ Err VerifyFault.ReadFault → Rose (S.faults source.old) (S.faults source.new) }
+    ensures cause { result ≡ Err VerifyFault.ReadFault → CountRose (S.faults source.old) (S.faults source.new) }
     ensures kept { KeepsSource S.folder S.faults S.misses S.at source.old source.new }
 {
     let place = match reader.count(alloc, source) {
@@ -90,7 +90,7 @@ fn type_var<S: Source>(
     ensures recorded { RecordedFrom result (form names RecordWord.TyVar) first log.old.state log.new.state
         reader.old reader.new (S.left source.old) (S.left source.new) }
     ensures advances { OnOk result (Advances reader.old reader.new) }
-    ensures cause { result ≡ Err VerifyFault.ReadFault → Rose (S.faults source.old) (S.faults source.new) }
+    ensures cause { result ≡ Err VerifyFault.ReadFault → CountRose (S.faults source.old) (S.faults source.new) }
     ensures kept { KeepsSource S.folder S.faults S.misses S.at source.old source.new }
 {
     let name = name_number(alloc, log, reader, source)?;
@@ -109,7 +109,7 @@ fn type_op<S: Source>(
     ensures recorded { RecordedFrom result (form names RecordWord.TyOp) first log.old.state log.new.state
         reader.old reader.new (S.left source.old) (S.left source.new) }
     ensures advances { OnOk result (Advances reader.old reader.new) }
-    ensures cause { result ≡ Err VerifyFault.ReadFault → Rose (S.faults source.old) (S.faults source.new) }
+    ensures cause { result ≡ Err VerifyFault.ReadFault → CountRose (S.faults source.old) (S.faults source.new) }
     ensures kept { KeepsSource S.folder S.faults S.misses S.at source.old source.new }
 {
     let name = name_number(alloc, log, reader, source)?;
@@ -129,7 +129,7 @@ fn free<S: Source>(
     ensures recorded { RecordedFrom result (form names RecordWord.Free) first log.old.state log.new.state
         reader.old reader.new (S.left source.old) (S.left source.new) }
     ensures advances { OnOk result (Advances reader.old reader.new) }
-    ensures cause { result ≡ Err VerifyFault.ReadFault → Rose (S.faults source.old) (S.faults source.new) }
+    ensures cause { result ≡ Err VerifyFault.ReadFault → CountRose (S.faults source.old) (S.faults source.new) }
     ensures kept { KeepsSource S.folder S.faults S.misses S.at source.old source.new }
 {
     let variable = named_type(alloc, log, reader, source)?;
@@ -148,7 +148,7 @@ fn constant_term<S: Source>(
     ensures recorded { RecordedFrom result (form names RecordWord.Con) first log.old.state log.new.state
         reader.old reader.new (S.left source.old) (S.left source.new) }
     ensures advances { OnOk result (Advances reader.old reader.new) }
-    ensures cause { result ≡ Err VerifyFault.ReadFault → Rose (S.faults source.old) (S.faults source.new) }
+    ensures cause { result ≡ Err VerifyFault.ReadFault → CountRose (S.faults source.old) (S.faults source.new) }
     ensures kept { KeepsSource S.folder S.faults S.misses S.at source.old source.new }
 {
     let name = name_number(alloc, log, reader, source)?;
@@ -168,7 +168,7 @@ fn app<S: Source>(
     ensures recorded { RecordedFrom result (form names RecordWord.App) first log.old.state log.new.state
         reader.old reader.new (S.left source.old) (S.left source.new) }
     ensures advances { OnOk result (Advances reader.old reader.new) }
-    ensures cause { result ≡ Err VerifyFault.ReadFault → Rose (S.faults source.old) (S.faults source.new) }
+    ensures cause { result ≡ Err VerifyFault.ReadFault → CountRose (S.faults source.old) (S.faults source.new) }
     ensures kept { KeepsSource S.folder S.faults S.misses S.at source.old source.new }
 {
     let f = term_number(alloc, log, reader, source)?;
@@ -188,7 +188,7 @@ fn lam<S: Source>(
     ensures recorded { RecordedFrom result (form names RecordWord.Lam) first log.old.state log.new.state
         reader.old reader.new (S.left source.old) (S.left source.new) }
     ensures advances { OnOk result (Advances reader.old reader.new) }
-    ensures cause { result ≡ Err VerifyFault.ReadFault → Rose (S.faults source.old) (S.faults source.new) }
+    ensures cause { result ≡ Err VerifyFault.ReadFault → CountRose (S.faults source.old) (S.faults source.new) }
     ensures kept { KeepsSource S.folder S.faults S.misses S.at source.old source.new }
 {
     let ty = type_number(alloc, log, reader, source)?;
@@ -208,7 +208,7 @@ fn refl<S: Source>(
     ensures recorded { RecordedFrom result (form names RecordWord.Refl) first log.old.state log.new.state
         reader.old reader.new (S.left source.old) (S.left source.new) }
     ensures advances { OnOk result (Advances reader.old reader.new) }
-    ensures cause { result ≡ Err VerifyFault.ReadFault → Rose (S.faults source.old) (S.faults source.new) }
+    ensures cause { result ≡ Err VerifyFault.ReadFault → CountRose (S.faults source.old) (S.faults source.new) }
     ensures kept { KeepsSource S.folder S.faults S.misses S.at source.old source.new }
 {
     let term = term_number(alloc, log, reader, source)?;
@@ -227,7 +227,7 @@ fn assume<S: Source>(
     ensures recorded { RecordedFrom result (form names RecordWord.Assume) first log.old.state log.new.state
         reader.old reader.new (S.left source.old) (S.left source.new) }
     ensures advances { OnOk result (Advances reader.old reader.new) }
-    ensures cause { result ≡ Err VerifyFault.ReadFault → Rose (S.faults source.old) (S.faults source.new) }
+    ensures cause { result ≡ Err VerifyFault.ReadFault → CountRose (S.faults source.old) (S.faults source.new) }
     ensures kept { KeepsSource S.folder S.faults S.misses S.at source.old source.new }
 {
     let term = term_number(alloc, log, reader, source)?;
@@ -246,7 +246,7 @@ fn eq_mp<S: Source>(
     ensures recorded { RecordedFrom result (form names RecordWord.EqMp) first log.old.state log.new.state
         reader.old reader.new (S.left source.old) (S.left source.new) }
     ensures advances { OnOk result (Advances reader.old reader.new) }
-    ensures cause { result ≡ Err VerifyFault.ReadFault → Rose (S.faults source.old) (S.faults source.new) }
+    ensures cause { result ≡ Err VerifyFault.ReadFault → CountRose (S.faults source.old) (S.faults source.new) }
     ensures kept { KeepsSource S.folder S.faults S.misses S.at source.old source.new }
 {
     let equation = sequent_number(alloc, log, reader, source)?;
@@ -266,7 +266,7 @@ fn abs_thm<S: Source>(
     ensures recorded { RecordedFrom result (form names RecordWord.AbsThm) first log.old.state log.new.state
         reader.old reader.new (S.left source.old) (S.left source.new) }
     ensures advances { OnOk result (Advances reader.old reader.new) }
-    ensures cause { result ≡ Err VerifyFault.ReadFault → Rose (S.faults source.old) (S.faults source.new) }
+    ensures cause { result ≡ Err VerifyFault.ReadFault → CountRose (S.faults source.old) (S.faults source.new) }
     ensures kept { KeepsSource S.folder S.faults S.misses S.at source.old source.new }
 {
     let variable = named_type(alloc, log, reader, source)?;
@@ -286,7 +286,7 @@ fn app_thm<S: Source>(
     ensures recorded { RecordedFrom result (form names RecordWord.AppThm) first log.old.state log.new.state
         reader.old reader.new (S.left source.old) (S.left source.new) }
     ensures advances { OnOk result (Advances reader.old reader.new) }
-    ensures cause { result ≡ Err VerifyFault.ReadFault → Rose (S.faults source.old) (S.faults source.new) }
+    ensures cause { result ≡ Err VerifyFault.ReadFault → CountRose (S.faults source.old) (S.faults source.new) }
     ensures kept { KeepsSource S.folder S.faults S.misses S.at source.old source.new }
 {
     let functions = sequent_number(alloc, log, reader, source)?;
@@ -306,7 +306,7 @@ fn deduct_antisym<S: Source>(
     ensures recorded { RecordedFrom result (form names RecordWord.DeductAntisym) first log.old.state log.new.state
         reader.old reader.new (S.left source.old) (S.left source.new) }
     ensures advances { OnOk result (Advances reader.old reader.new) }
-    ensures cause { result ≡ Err VerifyFault.ReadFault → Rose (S.faults source.old) (S.faults source.new) }
+    ensures cause { result ≡ Err VerifyFault.ReadFault → CountRose (S.faults source.old) (S.faults source.new) }
     ensures kept { KeepsSource S.folder S.faults S.misses S.at source.old source.new }
 {
     let left = sequent_number(alloc, log, reader, source)?;
@@ -326,7 +326,7 @@ fn beta_conv<S: Source>(
     ensures recorded { RecordedFrom result (form names RecordWord.BetaConv) first log.old.state log.new.state
         reader.old reader.new (S.left source.old) (S.left source.new) }
     ensures advances { OnOk result (Advances reader.old reader.new) }
-    ensures cause { result ≡ Err VerifyFault.ReadFault → Rose (S.faults source.old) (S.faults source.new) }
+    ensures cause { result ≡ Err VerifyFault.ReadFault → CountRose (S.faults source.old) (S.faults source.new) }
     ensures kept { KeepsSource S.folder S.faults S.misses S.at source.old source.new }
 {
     let term = term_number(alloc, log, reader, source)?;
@@ -345,7 +345,7 @@ fn subst<S: Source>(
     ensures recorded { RecordedFrom result (form names RecordWord.Subst) first log.old.state log.new.state
         reader.old reader.new (S.left source.old) (S.left source.new) }
     ensures advances { OnOk result (Advances reader.old reader.new) }
-    ensures cause { result ≡ Err VerifyFault.ReadFault → Rose (S.faults source.old) (S.faults source.new) }
+    ensures cause { result ≡ Err VerifyFault.ReadFault → CountRose (S.faults source.old) (S.faults source.new) }
     ensures kept { KeepsSource S.folder S.faults S.misses S.at source.old source.new }
 {
     let sequent = sequent_number(alloc, log, reader, source)?;
@@ -366,7 +366,7 @@ fn assumption<S: Source>(
     ensures recorded { RecordedFrom result (form names RecordWord.Assumption) first log.old.state log.new.state
         reader.old reader.new (S.left source.old) (S.left source.new) }
     ensures advances { OnOk result (Advances reader.old reader.new) }
-    ensures cause { result ≡ Err VerifyFault.ReadFault → Rose (S.faults source.old) (S.faults source.new) }
+    ensures cause { result ≡ Err VerifyFault.ReadFault → CountRose (S.faults source.old) (S.faults source.new) }
     ensures kept { KeepsSource S.folder S.faults S.misses S.at source.old source.new }
 {
     let concl = term_number(alloc, log, reader, source)?;
@@ -386,7 +386,7 @@ fn constant<S: Source>(
     ensures recorded { RecordedFrom result (form names RecordWord.Constant) first log.old.state log.new.state
         reader.old reader.new (S.left source.old) (S.left source.new) }
     ensures advances { OnOk result (Advances reader.old reader.new) }
-    ensures cause { result ≡ Err VerifyFault.ReadFault → Rose (S.faults source.old) (S.faults source.new) }
+    ensures cause { result ≡ Err VerifyFault.ReadFault → CountRose (S.faults source.old) (S.faults source.new) }
     ensures kept { KeepsSource S.folder S.faults S.misses S.at source.old source.new }
 {
     let name = name_number(alloc, log, reader, source)?;
@@ -406,7 +406,7 @@ fn constants<S: Source>(
     ensures recorded { RecordedFrom result (form names RecordWord.Constants) first log.old.state log.new.state
         reader.old reader.new (S.left source.old) (S.left source.new) }
     ensures advances { OnOk result (Advances reader.old reader.new) }
-    ensures cause { result ≡ Err VerifyFault.ReadFault → Rose (S.faults source.old) (S.faults source.new) }
+    ensures cause { result ≡ Err VerifyFault.ReadFault → CountRose (S.faults source.old) (S.faults source.new) }
     ensures kept { KeepsSource S.folder S.faults S.misses S.at source.old source.new }
 {
     let pairs = list::<ConstantPair, _>(alloc, log, reader, source)?;
@@ -426,7 +426,7 @@ fn type_operator<S: Source>(
     ensures recorded { RecordedFrom result (form names RecordWord.TypeOperator) first log.old.state log.new.state
         reader.old reader.new (S.left source.old) (S.left source.new) }
     ensures advances { OnOk result (Advances reader.old reader.new) }
-    ensures cause { result ≡ Err VerifyFault.ReadFault → Rose (S.faults source.old) (S.faults source.new) }
+    ensures cause { result ≡ Err VerifyFault.ReadFault → CountRose (S.faults source.old) (S.faults source.new) }
     ensures kept { KeepsSource S.folder S.faults S.misses S.at source.old source.new }
 {
     let name = name_number(alloc, log, reader, source)?;
@@ -449,7 +449,7 @@ fn result_record<S: Source>(
     ensures recorded { RecordedFrom result (form names RecordWord.Result) first log.old.state log.new.state
         reader.old reader.new (S.left source.old) (S.left source.new) }
     ensures advances { OnOk result (Advances reader.old reader.new) }
-    ensures cause { result ≡ Err VerifyFault.ReadFault → Rose (S.faults source.old) (S.faults source.new) }
+    ensures cause { result ≡ Err VerifyFault.ReadFault → CountRose (S.faults source.old) (S.faults source.new) }
     ensures kept { KeepsSource S.folder S.faults S.misses S.at source.old source.new }
 {
     let sequent = sequent_number(alloc, log, reader, source)?;

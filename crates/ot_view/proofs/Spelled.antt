@@ -7,17 +7,18 @@ use Rattle.std.proofs.Common.{slice_index_or, Option, Some, inl, inr, refl, sym,
 use Rattle.std.proofs.lemmas.List.Elements.{All-head, All-tail}
 use Rattle.std.proofs.lemmas.Option.{slice_get_within, get_or_from_slice_get, slice_get-get_or}
 use Rattle.std.proofs.lemmas.List.{length-map}
-use Rattle.ot_plain.specs.Lists.{IsMember}
-use Rattle.ot_plain.specs.Names.{Name}
-use Rattle.ot_plain.specs.Trees.{Alphabet, Ty, TyVar, TyOp, MoreTys, Variable, Tm}
-use Rattle.ot_plain.specs.Trees.{Free, Con, Bound, App, Abs, Named, NVar, NConst, NApp, NAbs}
-use Rattle.ot_plain.specs.Hol.{same_ty, same_var, same_tm, nameless, named_type, IsFree, IsFreeIn}
-use Rattle.ot_plain.specs.Renamed.{map_ty, map_tys, map_variable, map_tm, map_named}
-use Rattle.ot_plain.specs.Naming.{names, numbers, name_of, IsNameTable}
-use Rattle.ot_plain.specs.Bounds.{bound_ty, bound_named}
-use Rattle.ot_plain.proofs.Line.{IsLettering, Line, letters, one_end, over_option}
-use Rattle.ot_plain.proofs.Line.{over_ty, over_variable, over_tm, over_named}
-use Rattle.ot_plain.proofs.Naming.{naming, lettering}
+use Rattle.ot_logic.specs.Lists.{IsMember}
+use Rattle.ot_logic.specs.Names.{Name}
+use Rattle.ot_logic.specs.Trees.{Alphabet, Ty, TyVar, TyOp, MoreTys, Variable, Tm}
+use Rattle.ot_logic.specs.Trees.{Free, Con, Bound, App, Abs, Named, NVar, NConst, NApp, NAbs}
+use Rattle.ot_logic.specs.Hol.{same_ty, same_var, same_tm, IsFree}
+use Rattle.ot_logic.specs.NamedTerms.{nameless, named_type, IsFreeIn}
+use Rattle.ot_logic.specs.Renamed.{map_ty, map_tys, map_variable, map_tm, map_named}
+use Rattle.ot_logic.specs.Naming.{names, numbers, name_of, IsNameTable}
+use Rattle.ot_logic.specs.Bounds.{bound_ty, bound_named}
+use Rattle.ot_logic.proofs.Line.{IsLettering, Line, letters, one_end, over_option}
+use Rattle.ot_logic.proofs.Line.{over_ty, over_variable, over_tm, over_named}
+use Rattle.ot_logic.proofs.Naming.{naming, lettering}
 use Rattle.ot_laws.proofs.Named.{free-nameless, nameless-free}
 use Rattle.ot_laws.proofs.New.{free-below}
 use Rattle.ot_laws.proofs.Tests.{tells_names, tells_numbers}
@@ -35,7 +36,7 @@ use Rattle.ot_kernel.specs.Spelled.{IsSpelled}
 use Rattle.ot_kernel.proofs.Comparing.{tested}
 use Rattle.ot_kernel.proofs.Namings.{index-map, name_of-index, table_names, bound_ty-get, bound_named-get}
 use Rattle.ot_view.specs.Nodes.{type_tree, IsTypeNode, IsKey, AreKeysIn, term_tree, IsTermNode}
-use Rattle.ot_plain.proofs.Members.{IsMember-get_or, IsMember-map, IsMember-map_back}
+use Rattle.ot_logic.proofs.Members.{IsMember-get_or, IsMember-map, IsMember-map_back}
 
 -- ---- members and free variables under maps
 

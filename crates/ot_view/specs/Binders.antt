@@ -1,7 +1,7 @@
 -- The binders around a term, in the code and in the definitions.
 use Rattle.std.specs.Prelude.{List, [], ◌∷◌}
-use Rattle.ot_plain.specs.Names.{Name}
-use Rattle.ot_plain.specs.Trees.{Variable}
+use Rattle.ot_logic.specs.Names.{Name}
+use Rattle.ot_logic.specs.Trees.{Variable}
 use Rattle.ot_kernel.specs.State.{State, variable_at}
 use Rattle.ot_view.specs.Nodes.{IsKey}
 use Rattle.ot_view.specs.declared.binders.Binders.{Binders}

@@ -1,8 +1,8 @@
 -- What the nodes of a kernel's types and terms stand for.
 use Rattle.std.specs.Prelude.{◌<◌, ℕ, length, List}
 use Rattle.std.specs.List.{All}
-use Rattle.ot_plain.specs.Names.{Name}
-use Rattle.ot_plain.specs.Trees.{Ty, TyVar, TyOp, Named, NVar, NConst, NApp, NAbs}
+use Rattle.ot_logic.specs.Names.{Name}
+use Rattle.ot_logic.specs.Trees.{Ty, TyVar, TyOp, Named, NVar, NConst, NApp, NAbs}
 use Rattle.ot_type.specs.declared.node.TypeNode.{TypeNode}
 use Rattle.ot_type.specs.declared.node.TypeNode.TheVariants as types
 use Rattle.ot_term.specs.declared.term.VarKey.{VarKey}

@@ -1,7 +1,7 @@
 //! The binders around a term.
 ghost use Rattle.std.specs.Prelude.{◌≡◌, ◌<◌, ◌^◌, length, IfSome};
-ghost use Rattle.ot_plain.specs.Naming.{names};
-ghost use Rattle.ot_plain.specs.Hol.{place as place_of};
+ghost use Rattle.ot_logic.specs.Naming.{names};
+ghost use Rattle.ot_logic.specs.NamedTerms.{place as place_of};
 ghost use Rattle.ot_kernel.specs.State.{variable_at};
 ghost use Rattle.ot_view.specs.Nodes.{IsKey};
 ghost use Rattle.ot_view.specs.Binders.{binders_at, AreKeys};

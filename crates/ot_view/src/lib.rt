@@ -2,11 +2,12 @@
 #![tactic(auto)]
 
 ghost use Rattle.std.specs.Prelude.{◌≡◌, ◌<◌, ◌↔◌, length, map, Some, IfOk, MatchOption};
-ghost use Rattle.ot_plain.specs.Lists.{IsMember};
-ghost use Rattle.ot_plain.specs.Names.{Name as NameValue};
-ghost use Rattle.ot_plain.specs.Naming.{names};
-ghost use Rattle.ot_plain.specs.Trees.{Variable, NApp, NAbs};
-ghost use Rattle.ot_plain.specs.Hol.{same_ty, same_tm, same_var, named_type, IsFreeIn};
+ghost use Rattle.ot_logic.specs.Lists.{IsMember};
+ghost use Rattle.ot_logic.specs.Names.{Name as NameValue};
+ghost use Rattle.ot_logic.specs.Naming.{names};
+ghost use Rattle.ot_logic.specs.Trees.{Variable, NApp, NAbs};
+ghost use Rattle.ot_logic.specs.Hol.{same_ty, same_tm, same_var};
+ghost use Rattle.ot_logic.specs.NamedTerms.{named_type, IsFreeIn};
 ghost use Rattle.ot_kernel.specs.State.{type_at, variable_at, named_at, term_at};
 ghost use Rattle.ot_view.specs.Nodes.{type_tree, IsTypeNode, term_tree, IsTermNode};
 ghost use Rattle.ot_view.specs.Nodes.{IsKey, AreKeysIn, IsNoApplication, IsNoAbstraction};
@@ -16,7 +17,7 @@ mod binders;
 pub use binders::{Binders, place};
 use ot_alpha::alpha_eq;
 use ot_kernel::Kernel;
-use ot_plain::Memory;
+use ot_logic::Memory;
 use ot_term::{TermId, TermNode, VarKey};
 use ot_type::{TypeId, TypeNode};
 use std::alloc::Global;

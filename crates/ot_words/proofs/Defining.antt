@@ -5,14 +5,14 @@ use Rattle.std.proofs.Common.{◌≡◌, ℕ, List, [], ◌∷◌, ◌++◌, map
 use Rattle.std.proofs.Common.{Result, Ok, Err, OnOk, refl, sym, ap, subst, ◌∙◌}
 use Rattle.std.proofs.lemmas.List.{map-append, length-map}
 use Rattle.std.proofs.lemmas.List.Elements.{All-nil, All-cons, All-head, All-tail, All-append}
-use Rattle.ot_plain.specs.Names.{Name}
-use Rattle.ot_plain.specs.Naming.{names}
-use Rattle.ot_plain.specs.Table.{Extends}
-use Rattle.ot_plain.specs.Trees.{Tm, Variable, Sequent, Definition, ConDef, ListDef, TyDef}
-use Rattle.ot_plain.specs.Hol.{IsWellTyped, theorems, is_shallow_sequent}
-use Rattle.ot_plain.specs.Faults.{Fault, Nesting}
-use Rattle.ot_plain.specs.Answers.{◌>>=◌, unless}
-use Rattle.ot_plain.specs.declared.command.Cmd.TheVariants as words
+use Rattle.ot_logic.specs.Names.{Name}
+use Rattle.ot_logic.specs.Naming.{names}
+use Rattle.ot_logic.specs.Table.{Extends}
+use Rattle.ot_logic.specs.Trees.{Tm, Variable, Sequent, Definition, ConDef, ListDef, TyDef}
+use Rattle.ot_logic.specs.Hol.{IsWellTyped, theorems, is_shallow_sequent}
+use Rattle.ot_logic.specs.Faults.{Fault, Nesting}
+use Rattle.ot_logic.specs.Answers.{◌>>=◌, unless}
+use Rattle.ot_logic.specs.declared.command.Cmd.TheVariants as words
 use Rattle.ot_laws.specs.Conditions.{checked_const, checked_list, checked_type}
 use Rattle.ot_kernel.specs.Defining.{all_defined, all_used, limited_definition, const_definition, list_definition}
 use Rattle.ot_kernel.specs.Defining.{type_definition, zipped}
@@ -44,7 +44,7 @@ use Rattle.ot_proof_log.specs.Writing.{write_entries}
 use Rattle.ot_words.specs.Listing.{constant_operands}
 use Rattle.ot_words.specs.Recording.{Defined, HasResult, IsNotRefused}
 use Rattle.ot_words.proofs.Recorded.{err-ok, handed}
-use Rattle.ot_plain.proofs.Results.{bind-ok, same_Ok}
+use Rattle.ot_logic.proofs.Results.{bind-ok, same_Ok}
 
 -- ---- what is accepted
 

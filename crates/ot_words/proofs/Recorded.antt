@@ -4,19 +4,19 @@ use Rattle.std.specs.List.{list_all}
 use Rattle.std.proofs.Common.{◌≡◌, ℕ, Bool, true, cond, List, [], ◌∷◌, map}
 use Rattle.std.proofs.Common.{Option, Some, Result, Ok, Err, refl, sym, ap, subst}
 use Rattle.std.proofs.Common.{◌∙◌}
-use Rattle.ot_plain.specs.Names.{Name}
-use Rattle.ot_plain.specs.Naming.{names}
-use Rattle.ot_plain.specs.Table.{Extends, IsInjective}
-use Rattle.ot_plain.specs.Trees.{Ty, Tm, App, Abs, Sequent}
-use Rattle.ot_plain.specs.Hol.{TypeMap, TermMap, bool_ty, type_of, equation}
-use Rattle.ot_plain.specs.Hol.{opened, sequent_of, subst_tm, once_each, same_tm}
-use Rattle.ot_plain.specs.Hol.{is_in, as_equation}
-use Rattle.ot_plain.specs.Faults.{Fault, NotBool}
-use Rattle.ot_plain.specs.Answers.{◌>>=◌, unless}
-use Rattle.ot_plain.specs.Rules.{has_type, proved_hyp, refl_rule, beta_conv_rule, subst_rule, sym_rule, trans_rule}
-use Rattle.ot_plain.specs.Rules.{prove_hyp_rule}
-use Rattle.ot_plain.specs.declared.command.Cmd.{Cmd}
-use Rattle.ot_plain.specs.declared.command.Cmd.TheVariants as words
+use Rattle.ot_logic.specs.Names.{Name}
+use Rattle.ot_logic.specs.Naming.{names}
+use Rattle.ot_logic.specs.Table.{Extends, IsInjective}
+use Rattle.ot_logic.specs.Trees.{Ty, Tm, App, Abs, Sequent}
+use Rattle.ot_logic.specs.Hol.{TypeMap, TermMap, bool_ty, type_of, equation}
+use Rattle.ot_logic.specs.Hol.{opened, sequent_of, subst_tm, once_each, same_tm}
+use Rattle.ot_logic.specs.Hol.{is_in, as_equation}
+use Rattle.ot_logic.specs.Faults.{Fault, NotBool}
+use Rattle.ot_logic.specs.Answers.{◌>>=◌, unless}
+use Rattle.ot_logic.specs.Rules.{has_type, proved_hyp, refl_rule, beta_conv_rule, subst_rule, sym_rule, trans_rule}
+use Rattle.ot_logic.specs.Rules.{prove_hyp_rule}
+use Rattle.ot_logic.specs.declared.command.Cmd.{Cmd}
+use Rattle.ot_logic.specs.declared.command.Cmd.TheVariants as words
 use Rattle.ot_laws.proofs.Tests.{tells_names}
 use Rattle.ot_laws.proofs.Steps.{within_limit-ok}
 use Rattle.ot_records.specs.Tokens.{LogFault, BadStep}
@@ -47,7 +47,7 @@ use Rattle.ot_machine.specs.Values.{applied}
 use Rattle.ot_proof_log.specs.Derived.{theorem_entries}
 use Rattle.ot_words.specs.Recording.{HasResult, IsNotRefused, IsTheoremOf, Records, sides_at}
 use Rattle.ot_words.specs.declared.words.Made.{Made}
-use Rattle.ot_plain.proofs.Results.{bind-ok, same_Ok, unless-ok}
+use Rattle.ot_logic.proofs.Results.{bind-ok, same_Ok, unless-ok}
 
 -- ---- tables that grow
 

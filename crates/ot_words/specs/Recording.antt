@@ -1,11 +1,11 @@
 -- What the records of a word are, and its sequent.
 use Rattle.std.specs.Prelude.{◌≡◌, ℕ, List, map, Result, Ok, Err}
 use Rattle.std.specs.List.{All}
-use Rattle.ot_plain.specs.Names.{Name}
-use Rattle.ot_plain.specs.Trees.{Ty, Tm, Sequent, Definition}
-use Rattle.ot_plain.specs.Naming.{names}
-use Rattle.ot_plain.specs.Hol.{theorems}
-use Rattle.ot_plain.specs.declared.command.Cmd.{Cmd}
+use Rattle.ot_logic.specs.Names.{Name}
+use Rattle.ot_logic.specs.Trees.{Ty, Tm, Sequent, Definition}
+use Rattle.ot_logic.specs.Naming.{names}
+use Rattle.ot_logic.specs.Hol.{theorems}
+use Rattle.ot_logic.specs.declared.command.Cmd.{Cmd}
 use Rattle.ot_nodes.specs.Items.{Item, type_at, term_at}
 use Rattle.ot_rules.specs.declared.shapes.Sides.{Sides}
 use Rattle.ot_rules.specs.Statements.{sequent_at, HasStatement}

@@ -1,10 +1,10 @@
 //! The records of definitions, each with its theorems.
 ghost use Rattle.std.specs.Prelude.{◌≡◌, ◌++◌, [], ◌∷◌, Ok, IfOk, length, map};
 ghost use Rattle.std.specs.List.{All, flat_map};
-ghost use Rattle.ot_plain.specs.Table.{Extends};
-ghost use Rattle.ot_plain.specs.Naming.{names};
-ghost use Rattle.ot_plain.specs.Hol.{IsWellTyped};
-ghost use Rattle.ot_plain.specs.declared.command.Cmd.TheVariants as words;
+ghost use Rattle.ot_logic.specs.Table.{Extends};
+ghost use Rattle.ot_logic.specs.Naming.{names};
+ghost use Rattle.ot_logic.specs.Hol.{IsWellTyped};
+ghost use Rattle.ot_logic.specs.declared.command.Cmd.TheVariants as words;
 ghost use Rattle.ot_nodes.specs.Items.{HasName, HasTerm, name_at, term_at};
 ghost use Rattle.ot_nodes.specs.Typing.{AreTypings};
 ghost use Rattle.ot_rules.specs.Statements.{sequent_at, HasStatement};
@@ -17,8 +17,8 @@ ghost use Rattle.ot_machine.specs.DefinitionLists.{pairs_of};
 ghost use Rattle.ot_words.specs.Recording.{AcceptsDefinition, Defined};
 ghost use Rattle.ot_words.specs.Listing.{constant_operands};
 
+use ot_logic::Memory;
 use ot_nodes::{NameId, Nodes, TermId, Typings, VariableNode};
-use ot_plain::Memory;
 use ot_records::RecordWord;
 use ot_rules::{Signature, Statement, StepFault, constant, constants, type_operator};
 use ot_sheet::{Operand, Sheet};

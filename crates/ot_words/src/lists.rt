@@ -1,8 +1,8 @@
 //! The records of the words that make theorems and take lists.
 ghost use Rattle.std.specs.Prelude.{◌≡◌, ◌++◌, [], ◌∷◌, Ok, IfOk, OnOk, length, map};
 ghost use Rattle.std.specs.List.{All, flat_map};
-ghost use Rattle.ot_plain.specs.Table.{Extends};
-ghost use Rattle.ot_plain.specs.declared.command.Cmd.TheVariants as words;
+ghost use Rattle.ot_logic.specs.Table.{Extends};
+ghost use Rattle.ot_logic.specs.declared.command.Cmd.TheVariants as words;
 ghost use Rattle.ot_nodes.specs.Items.{HasTerm, term_at};
 ghost use Rattle.ot_nodes.specs.Changing.{HasTypes, HasTerms, type_map, term_map};
 ghost use Rattle.ot_nodes.specs.Typing.{AreTypings};
@@ -15,9 +15,9 @@ ghost use Rattle.ot_words.specs.Recording.{Accepts, Records};
 ghost use Rattle.ot_words.specs.Listing.{type_operands, term_operands};
 
 use crate::words::Made;
+use ot_logic::Memory;
 use ot_nodes::{NameId, Nodes, TermId, TypeId, Typings, VariableNode};
 use ot_order::sorted_by_text;
-use ot_plain::Memory;
 use ot_records::RecordWord;
 use ot_rules::{Statement, StepFault, assumption, subst};
 use ot_sheet::{Operand, Sheet};

@@ -1,9 +1,9 @@
 //! The records of the words that make theorems, each with its sequent.
 ghost use Rattle.std.specs.Prelude.{◌≡◌, [], ◌∷◌, Some, Ok, IfOk};
-ghost use Rattle.ot_plain.specs.Naming.{names};
-ghost use Rattle.ot_plain.specs.Hol.{IsWellTyped};
-ghost use Rattle.ot_plain.specs.Table.{Extends};
-ghost use Rattle.ot_plain.specs.declared.command.Cmd.TheVariants as words;
+ghost use Rattle.ot_logic.specs.Naming.{names};
+ghost use Rattle.ot_logic.specs.Hol.{IsWellTyped};
+ghost use Rattle.ot_logic.specs.Table.{Extends};
+ghost use Rattle.ot_logic.specs.declared.command.Cmd.TheVariants as words;
 ghost use Rattle.ot_nodes.specs.Items.{HasTerm, term_at};
 ghost use Rattle.ot_nodes.specs.Changing.{HasVariable, HasTypes, HasTerms, variable_at, type_map, term_map};
 ghost use Rattle.ot_nodes.specs.Typing.{AreTypings};
@@ -16,8 +16,8 @@ ghost use Rattle.ot_machine.specs.Makers.{maker};
 ghost use Rattle.ot_machine.specs.Values.{applied};
 ghost use Rattle.ot_words.specs.Recording.{Accepts, HasResult, IsNotRefused, Records, sides_at};
 
+use ot_logic::{Cmd, Memory};
 use ot_nodes::{Nodes, TermId, Typings, VariableNode};
-use ot_plain::{Cmd, Memory};
 use ot_records::RecordWord;
 use ot_rules::{
     Sides, Statement, StepFault, abs_thm, app_thm, as_equation, assume, beta_conv, deduct_antisym,

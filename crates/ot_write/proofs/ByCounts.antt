@@ -6,9 +6,9 @@ use Rattle.std.specs.Bool.{Decides}
 use Rattle.std.specs.List.{All, flat_map}
 use Rattle.std.proofs.lemmas.Bool.Decides.{nat_tests}
 use Rattle.std.proofs.lemmas.Bool.{le-leb, lt-leb}
-use Rattle.ot_plain.specs.Names.{Name, same_name-Decides}
-use Rattle.ot_plain.specs.Naming.{names, name_of}
-use Rattle.ot_plain.proofs.Naming.{name_of-injective}
+use Rattle.ot_logic.specs.Names.{Name, same_name-Decides}
+use Rattle.ot_logic.specs.Naming.{names, name_of}
+use Rattle.ot_logic.proofs.Naming.{name_of-injective}
 use Rattle.ot_trace.specs.Origins.{Origin}
 use Rattle.ot_trace.specs.Trace.{IsStepTable, origin_at}
 use Rattle.ot_trace.specs.Reach.{MarksReached}

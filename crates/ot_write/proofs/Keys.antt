@@ -12,7 +12,7 @@ use Rattle.ot_trace.specs.Origins.{Origin}
 use Rattle.ot_trace.specs.Trace.{IsStepTable, origin_at}
 use Rattle.ot_write.specs.Emitting.{same, HasKeys, count_of}
 use Rattle.ot_written.proofs.Same.{same-origin-law}
-use Rattle.ot_plain.proofs.Elements.{slice_get-set_other, slice_get-set_same}
+use Rattle.ot_logic.proofs.Elements.{slice_get-set_other, slice_get-set_same}
 
 eq-is : (a b : ℕ) → Decides (nat_eq a b) (a ≡ b)
 eq-is a b = (λ h. grind (arith, nat_tests), λ h. grind (arith, nat_tests))

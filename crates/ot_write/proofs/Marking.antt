@@ -4,7 +4,7 @@ use Rattle.std.proofs.Common.{◌≡◌, ◌≢◌, ℕ, zero, suc, ◌+◌, ◌
 use Rattle.std.proofs.Common.{List, [], ◌∷◌, map, set, length, slice_get, Some, refl, sym, ap, subst, ◌∙◌, arith}
 use Rattle.std.specs.Prelude.{◌&&◌}
 use Rattle.std.specs.List.{flat_map, filter}
-use Rattle.ot_plain.specs.Lists.{IsMember, AreDistinct}
+use Rattle.ot_logic.specs.Lists.{IsMember, AreDistinct}
 use Rattle.ot_trace.specs.Origins.{Origin, Outcome, operands}
 use Rattle.ot_trace.specs.Trace.{IsStepTable, origin_at}
 use Rattle.ot_trace.specs.Reach.{IsReached, Root, Operand, OfTheorem, OfSymbol, MarksReached}
@@ -20,8 +20,8 @@ use Rattle.ot_written.proofs.Renaming.{filter-map}
 use Rattle.ot_written.proofs.Walk.{marked-to, marked-in, marked-distinct, get-low, needed-by-test}
 use Rattle.ot_write.specs.Emitting.{same, is_marked, taken}
 use Rattle.ot_write.proofs.Keys.{same-is, once-at}
-use Rattle.ot_plain.proofs.Elements.{slice_get-set_other, slice_get-set_same}
-use Rattle.ot_plain.proofs.Members.{IsMember-map, IsMember-map_back}
+use Rattle.ot_logic.proofs.Elements.{slice_get-set_other, slice_get-set_same}
+use Rattle.ot_logic.proofs.Members.{IsMember-map, IsMember-map_back}
 
 abbrev pub IsIn : ℕ → List ℕ → Type 0
 IsIn n is = (i : ℕ) → IsMember i is → i < n

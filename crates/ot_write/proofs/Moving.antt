@@ -7,19 +7,19 @@ use Rattle.std.specs.List.{All, AllByRecursion}
 use Rattle.std.proofs.lemmas.List.{reverse-append}
 use Rattle.std.proofs.lemmas.Grind.{flat_map-append}
 use Rattle.std.proofs.lemmas.Bool.{le-leb, lt-leb}
-use Rattle.ot_plain.specs.Names.{Name}
-use Rattle.ot_plain.specs.declared.command.Cmd.{Cmd}
-use Rattle.ot_plain.specs.declared.command.Cmd.TheVariants as words
+use Rattle.ot_logic.specs.Names.{Name}
+use Rattle.ot_logic.specs.declared.command.Cmd.{Cmd}
+use Rattle.ot_logic.specs.declared.command.Cmd.TheVariants as words
 use Rattle.ot_trace.specs.Origins as o
 use Rattle.ot_trace.specs.Origins.{Origin, Origins}
 use Rattle.ot_written.specs.Written as w
 use Rattle.ot_written.specs.Written.{Text, Line}
 use Rattle.ot_written.specs.Bytes.{line_bytes}
 use Rattle.ot_write.specs.Emitting.{number_line, number_lines}
-use Rattle.ot_plain.specs.Lists.{AreDistinct}
-use Rattle.ot_plain.specs.Table.{IsInjective}
-use Rattle.ot_plain.proofs.Naming.{name_of-at}
-use Rattle.ot_plain.proofs.Members.{IsMember-place}
+use Rattle.ot_logic.specs.Lists.{AreDistinct}
+use Rattle.ot_logic.specs.Table.{IsInjective}
+use Rattle.ot_logic.proofs.Naming.{name_of-at}
+use Rattle.ot_logic.proofs.Members.{IsMember-place}
 use Rattle.ot_write.specs.Limited as limit
 use Rattle.ot_write.specs.declared.writer.Writer.{Writer}
 use Rattle.ot_write.specs.declared.writer.Task.{Task}

@@ -4,7 +4,7 @@ use Rattle.std.proofs.Common.{◌++◌, set, take, length, refl, sym, ap, ◌∙
 use Rattle.std.specs.List.{AllByRecursion, flat_map}
 use Rattle.std.proofs.lemmas.List.{take_more}
 use Rattle.std.proofs.lemmas.Grind.{flat_map-append}
-use Rattle.ot_plain.specs.Lists.{IsMember, IsPart}
+use Rattle.ot_logic.specs.Lists.{IsMember, IsPart}
 use Rattle.ot_write.specs.declared.roots.Roots as code
 use Rattle.ot_write.specs.Emitting.{is_marked, root_steps, taken}
 

@@ -1,7 +1,7 @@
 -- The bytes of the article of exports by number.
 use Rattle.std.specs.Prelude.{◌≡◌, ◌<◌, ◌≤◌, ℕ, List, ◌++◌, length, map, slice_get, Some, Result, Ok, Err}
-use Rattle.ot_plain.specs.Names.{Name}
-use Rattle.ot_plain.specs.Naming.{names, name_of}
+use Rattle.ot_logic.specs.Names.{Name}
+use Rattle.ot_logic.specs.Naming.{names, name_of}
 use Rattle.ot_trace.specs.Origins.{Origin, Named, Roots, map_origin}
 use Rattle.ot_trace.specs.Trace.{origin_at}
 use Rattle.ot_written.specs.Same.{same_origin}

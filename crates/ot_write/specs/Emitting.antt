@@ -2,8 +2,8 @@
 use Rattle.std.specs.Prelude.{◌≡◌, ℕ, suc, ◌+◌, ◌<◌, Bool, cond, List, [], ◌∷◌, map, set, length}
 use Rattle.std.specs.Prelude.{nat_eq, nat_le, Option, Some, slice_get, slice_index_or, false}
 use Rattle.std.specs.List.{AllByRecursion, flat_map}
-use Rattle.ot_plain.specs.Names.{Name}
-use Rattle.ot_plain.specs.Naming.{name_of}
+use Rattle.ot_logic.specs.Names.{Name}
+use Rattle.ot_logic.specs.Naming.{name_of}
 use Rattle.ot_trace.specs.Origins as o
 use Rattle.ot_trace.specs.Origins.{Origin, Origins, Roots}
 use Rattle.ot_trace.specs.Trace.{IsStepTable, origin_at}
@@ -13,7 +13,7 @@ use Rattle.ot_written.specs.Same.{same_origin}
 use Rattle.ot_written.specs.Bytes.{line_bytes, line_with}
 use Rattle.ot_write.specs.Limited as limit
 use Rattle.ot_write.specs.Bytes.{roots_at}
-use Rattle.ot_plain.specs.declared.command.Cmd.{Cmd}
+use Rattle.ot_logic.specs.declared.command.Cmd.{Cmd}
 use Rattle.ot_write.specs.declared.roots.Roots as code
 use Rattle.ot_write.specs.declared.writer.Task.{Task}
 use Rattle.ot_write.specs.declared.writer.Task.TheVariants as task

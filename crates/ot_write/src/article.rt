@@ -1,7 +1,7 @@
 //! The written article.
 ghost use Rattle.std.specs.Prelude.{◌≡◌, ◌<◌, ℕ, List, length, map, IfOk};
 ghost use Rattle.std.specs.List.{All, AllByRecursion, flat_map};
-ghost use Rattle.ot_plain.specs.Lists.{IsPart};
+ghost use Rattle.ot_logic.specs.Lists.{IsPart};
 ghost use Rattle.ot_trace.specs.Trace.{IsStepTable, origin_at};
 ghost use Rattle.ot_written.specs.Written.{roots_of};
 ghost use Rattle.ot_written.specs.Needed.{needed_definitions};
@@ -11,7 +11,7 @@ ghost use Rattle.ot_write.specs.Emitting.{counted_bytes, given, root_steps, same
 use crate::roots::Roots;
 use crate::text::WriteRefusal;
 use crate::writer::Writer;
-use ot_plain::{Cmd, Memory, Names};
+use ot_logic::{Cmd, Memory, Names};
 use ot_trace::{StepId, Trace, reach, uses};
 use std::alloc::Global;
 

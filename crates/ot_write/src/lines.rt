@@ -4,7 +4,7 @@ ghost use Rattle.ot_written.specs.Bytes.{line_bytes};
 ghost use Rattle.ot_written.specs.Written.{Numeral, Spelled, Order};
 
 use itoa::Buffer;
-use ot_plain::{Cmd, Memory, Name};
+use ot_logic::{Cmd, Memory, Name};
 
 /// Appends a line that holds a word. After running out of memory some front of it may be added.
 pub(crate) fn push_word(word: Cmd, out: &mut Vec<u8>) -> Result<(), Memory>

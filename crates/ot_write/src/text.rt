@@ -6,7 +6,7 @@ ghost use Rattle.ot_write.specs.Bytes.{Writes};
 ghost use Rattle.ot_write.specs.Limited.{Bytes, Full, put, limited};
 
 use crate::lines::{push_key, push_name, push_number, push_word};
-use ot_plain::{Cmd, Memory, Name};
+use ot_logic::{Cmd, Memory, Name};
 use std::alloc::Global;
 
 /// Why an article isn't written.

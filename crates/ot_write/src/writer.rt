@@ -1,11 +1,11 @@
 //! The writer of origins, with a work list of its own.
 ghost use Rattle.std.specs.Prelude.{◌≡◌, ◌+◌, ◌<◌, ◌++◌, ◌∷◌, [], ℕ, List, cond};
 ghost use Rattle.std.specs.Prelude.{length, map, nat_le, reverse, OnOk, IfOk, pos};
-ghost use Rattle.ot_plain.specs.Names.{Name};
+ghost use Rattle.ot_logic.specs.Names.{Name};
 ghost use Rattle.ot_trace.specs.Origins as origin;
 ghost use Rattle.ot_trace.specs.Origins.{Origin};
 ghost use Rattle.ot_trace.specs.Trace.{IsStepTable, origin_at};
-ghost use Rattle.ot_plain.specs.declared.command.Cmd.TheVariants as words;
+ghost use Rattle.ot_logic.specs.declared.command.Cmd.TheVariants as words;
 ghost use Rattle.ot_written.specs.Written.{put, make, store, keep_made, emit, emit_definition};
 ghost use Rattle.ot_written.specs.Written.{emit_exports, pops, theorem_count, symbol_count};
 ghost use Rattle.ot_written.specs.Written as written;
@@ -17,7 +17,7 @@ ghost use Rattle.ot_write.specs.Emitting.{keep, used, perform, place_of, rest, s
 
 use crate::roots::Roots;
 use crate::text::Text;
-use ot_plain::{Cmd, Memory, Names};
+use ot_logic::{Cmd, Memory, Names};
 use ot_trace::{Step, StepId, Trace};
 use std::alloc::Global;
 

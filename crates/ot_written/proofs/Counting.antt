@@ -3,7 +3,7 @@ use Rattle.std.proofs.Common.{◌≡◌, ◌≢◌, ℕ, suc, ◌+◌, ◌<◌, 
 use Rattle.std.proofs.Common.{cond, List, [], ◌∷◌, ◌++◌, refl, sym, ap, subst, ◌∙◌, arith}
 use Rattle.std.specs.Bool.{Decides}
 use Rattle.std.specs.List.{flat_map}
-use Rattle.ot_plain.specs.Lists.{IsMember, AreDistinct}
+use Rattle.ot_logic.specs.Lists.{IsMember, AreDistinct}
 use Rattle.ot_trace.specs.Uses.{count}
 
 module _ {X : Type 0} (same : X → X → Bool) (same-is : (a b : X) → Decides (same a b) (a ≡ b)) where

@@ -2,18 +2,18 @@
 use Rattle.std.proofs.Common.{◌≡◌, ℕ, zero, suc, inl, inr, Bool, true, false, cond}
 use Rattle.std.proofs.Common.{List, [], ◌∷◌, ◌++◌, Option, None, Some, refl, sym, subst}
 use Rattle.std.specs.Bool.{Decides}
-use Rattle.ot_plain.specs.Lists.{IsMember}
+use Rattle.ot_logic.specs.Lists.{IsMember}
 use Rattle.ot_trace.specs.Origins.{Origin, Origins, Number, Named, Make, Define}
 use Rattle.ot_trace.specs.Origins.{Outcome, NoOrigins, MoreOrigins, parts, parts_all}
 use Rattle.ot_written.specs.Written as w
 use Rattle.ot_written.specs.Written.{Numeral, Spelled, Order, Text, theorem_count, symbol_count}
-use Rattle.ot_plain.specs.declared.command.Cmd.{Cmd}
-use Rattle.ot_plain.specs.declared.command.Cmd.TheVariants as words
+use Rattle.ot_logic.specs.declared.command.Cmd.{Cmd}
+use Rattle.ot_logic.specs.declared.command.Cmd.TheVariants as words
 use Rattle.ot_written.proofs.Settled.{IsMark, EachOutcome, EachOutcomes}
 use Rattle.ot_written.proofs.Members.{member-get}
 use Rattle.ot_written.proofs.Growth.{key-get, key-none, Grows, grows-store, grows-emit}
 use Rattle.ot_written.proofs.Growth.{grows-emit_all, grows-pops, grows-outcomes, outcomes-mono}
-use Rattle.ot_plain.proofs.Members.{IsMember-cases, IsMember-last, IsMember-left}
+use Rattle.ot_logic.proofs.Members.{IsMember-cases, IsMember-last, IsMember-left}
 
 module _ {N : Type 0} where
   -- each mark among these is made

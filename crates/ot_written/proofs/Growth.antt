@@ -5,15 +5,15 @@ use Rattle.std.proofs.lemmas.List.{append-nil}
 use Rattle.std.specs.Bool.{Decides}
 use Rattle.std.specs.List.{flat_map}
 use Rattle.std.specs.Option.{option_map}
-use Rattle.ot_plain.specs.Lists.{IsMember}
+use Rattle.ot_logic.specs.Lists.{IsMember}
 use Rattle.ot_trace.specs.Origins.{Origin, Origins, Number, Named, Make, Define, Outcome, NoOrigins, MoreOrigins}
 use Rattle.ot_written.specs.Written as w
 use Rattle.ot_written.specs.Written.{Line, Numeral, Spelled, Order, Text, theorem_count, symbol_count}
 use Rattle.ot_trace.specs.Origins.{Roots}
-use Rattle.ot_plain.specs.declared.command.Cmd.{Cmd}
-use Rattle.ot_plain.specs.declared.command.Cmd.TheVariants as words
+use Rattle.ot_logic.specs.declared.command.Cmd.{Cmd}
+use Rattle.ot_logic.specs.declared.command.Cmd.TheVariants as words
 use Rattle.ot_written.proofs.Settled.{EachOutcome, EachOutcomes}
-use Rattle.ot_plain.proofs.Members.{IsMember-left}
+use Rattle.ot_logic.proofs.Members.{IsMember-left}
 
 pub flat_map-snoc : {X A : Type 0} (f : X → List A) → (xs : List X) (x : X) → flat_map f (xs ++ x ∷ [])
     ≡ flat_map f xs ++ f x

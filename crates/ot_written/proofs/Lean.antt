@@ -3,21 +3,21 @@ use Rattle.std.proofs.Common.{◌≡◌, ℕ, suc, ◌+◌, ◌<◌, ◌≤◌, 
 use Rattle.std.proofs.Common.{◌++◌, Option, None, Some, refl, sym, ap, subst, ◌∙◌, arith, append_assoc}
 use Rattle.std.specs.Bool.{Decides}
 use Rattle.std.specs.List.{flat_map}
-use Rattle.ot_plain.specs.Lists.{IsMember, AreDistinct}
+use Rattle.ot_logic.specs.Lists.{IsMember, AreDistinct}
 use Rattle.ot_trace.specs.Uses.{count}
 use Rattle.ot_trace.specs.Origins.{Origin, Origins, Number, Named, Make, Define}
 use Rattle.ot_trace.specs.Origins.{Outcome, NoOrigins, MoreOrigins, listed, operands}
 use Rattle.ot_written.specs.Written as w
 use Rattle.ot_written.specs.Written.{Line, Numeral, Spelled, Order, Text, roots_of, theorem_count, symbol_count}
 use Rattle.ot_trace.specs.Origins.{Roots}
-use Rattle.ot_plain.specs.declared.command.Cmd.{Cmd}
-use Rattle.ot_plain.specs.declared.command.Cmd.TheVariants as words
+use Rattle.ot_logic.specs.declared.command.Cmd.{Cmd}
+use Rattle.ot_logic.specs.declared.command.Cmd.TheVariants as words
 use Rattle.std.specs.Prelude.{pos}
 use Rattle.ot_written.proofs.Settled.{stores, IsMade, IsNeededList}
 use Rattle.ot_written.proofs.Counting.{count-append, count-moved, count-self, count-more, count-member, sum-part}
 use Rattle.ot_written.proofs.Growth.{flat_map-snoc, key-none, made-store, grows-store}
 use Rattle.ot_written.proofs.Growth.{grows-pops, grows-outcomes, made-definition}
-use Rattle.ot_plain.proofs.Members.{AreDistinct-push, IsMember-cases, IsMember-last, IsMember-left, IsMember-right}
+use Rattle.ot_logic.proofs.Members.{AreDistinct-push, IsMember-cases, IsMember-last, IsMember-left, IsMember-right}
 
 module _ {N : Type 0} where
   abbrev mutual

@@ -1,7 +1,7 @@
 -- A table of trees, with the numbers of their operands, and the numbers of all that roots lead to.
 use Rattle.std.specs.Prelude.{◌≡◌, ◌<◌, ℕ, List, length, map}
-use Rattle.ot_plain.specs.Lists.{IsMember, AreDistinct}
-use Rattle.ot_plain.specs.Table.{IsInjective}
+use Rattle.ot_logic.specs.Lists.{IsMember, AreDistinct}
+use Rattle.ot_logic.specs.Table.{IsInjective}
 use Rattle.ot_trace.specs.Origins.{Origin, Outcome, operands}
 use Rattle.ot_trace.specs.Trace.{origin_at}
 use Rattle.ot_trace.specs.Reach.{IsReached}

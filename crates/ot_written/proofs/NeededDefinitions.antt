@@ -4,7 +4,7 @@ use Rattle.std.proofs.Common.{[], ◌∷◌, ◌++◌, length, refl, sym, ap, su
 use Rattle.std.specs.Prelude.{◌||◌}
 use Rattle.std.specs.Bool.{Decides}
 use Rattle.std.specs.List.{filter, list_any, flat_map}
-use Rattle.ot_plain.specs.Lists.{IsMember, AreDistinct, IsPart}
+use Rattle.ot_logic.specs.Lists.{IsMember, AreDistinct, IsPart}
 use Rattle.ot_trace.specs.Origins.{Origin, Origins, Number, Named, Make, Define, Outcome}
 use Rattle.ot_trace.specs.Origins.{NoOrigins, MoreOrigins, listed, parts, parts_all, symbols}
 use Rattle.ot_written.specs.Needed as n
@@ -14,7 +14,7 @@ use Rattle.ot_written.proofs.Filters.{bool_cases, or_cases, or_left, or_right, f
 use Rattle.ot_written.proofs.Filters.{filter-all, filter-distinct, filter-length, filter-grows}
 use Rattle.ot_written.proofs.Filters.{any-to, any-from, member-flat_map, flat_map-member}
 use Rattle.ot_written.proofs.Parts.{part-self, part-operand, part-theorem}
-use Rattle.ot_plain.proofs.Members.{IsMember-cases, IsMember-left, IsMember-right}
+use Rattle.ot_logic.proofs.Members.{IsMember-cases, IsMember-left, IsMember-right}
 
 module _ {N : Type 0} (same : Origin N → Origin N → Bool)
     (same-is : (a b : Origin N) → Decides (same a b) (a ≡ b)) where

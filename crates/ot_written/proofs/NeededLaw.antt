@@ -2,7 +2,7 @@
 use Rattle.std.proofs.Common.{◌≡◌, Bool, true, List, refl, sym, subst}
 use Rattle.std.specs.Bool.{Decides}
 use Rattle.std.specs.List.{filter}
-use Rattle.ot_plain.specs.Lists.{IsMember}
+use Rattle.ot_logic.specs.Lists.{IsMember}
 use Rattle.ot_trace.specs.Origins.{Origin}
 use Rattle.ot_written.specs.Needed.{firsts, is_among, needed_definitions}
 use Rattle.ot_written.specs.Laws.{NeededSetLaw}

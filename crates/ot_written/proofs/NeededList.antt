@@ -5,7 +5,7 @@ use Rattle.std.specs.Bool.{Decides}
 use Rattle.std.specs.Prelude.{nat_le}
 use Rattle.std.proofs.lemmas.Bool.Decides.{nat_tests}
 use Rattle.std.specs.List.{flat_map}
-use Rattle.ot_plain.specs.Lists.{IsMember}
+use Rattle.ot_logic.specs.Lists.{IsMember}
 use Rattle.ot_trace.specs.Origins.{Origin, Number, Named, Make, Define, Outcome, parts}
 use Rattle.ot_written.specs.Needed.{needed_definitions, needed_origins}
 use Rattle.ot_trace.specs.Uses.{count}

@@ -5,7 +5,7 @@ use Rattle.std.specs.Bool.{Decides}
 use Rattle.std.specs.Prelude.{nat_eq}
 use Rattle.std.proofs.lemmas.Bool.Decides.{nat_tests}
 use Rattle.std.specs.List.{flat_map}
-use Rattle.ot_plain.specs.Lists.{IsMember, AreDistinct}
+use Rattle.ot_logic.specs.Lists.{IsMember, AreDistinct}
 use Rattle.ot_trace.specs.Origins.{Origin, operands}
 use Rattle.ot_written.specs.Needed.{needed_origins}
 use Rattle.ot_trace.specs.Uses.{count}
@@ -14,7 +14,7 @@ use Rattle.ot_written.specs.Uses.{use_count}
 use Rattle.ot_written.proofs.Filters.{bool_cases, member-flat_map}
 use Rattle.ot_written.proofs.Counting.{sum-part}
 use Rattle.ot_written.proofs.NeededDefinitions.{firsts-distinct, reached-origin, origin-reached}
-use Rattle.ot_plain.proofs.Members.{IsMember-map, IsMember-map_back}
+use Rattle.ot_logic.proofs.Members.{IsMember-map, IsMember-map_back}
 use Rattle.std.proofs.lemmas.List.{map-append}
 
 eq-is : (a b : ℕ) → Decides (nat_eq a b) (a ≡ b)

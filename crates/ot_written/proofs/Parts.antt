@@ -1,9 +1,9 @@
 -- The parts of origins.
 use Rattle.std.proofs.Common.{◌≡◌, ℕ, inl, inr, ◌++◌, refl, sym, subst}
-use Rattle.ot_plain.specs.Lists.{IsMember}
+use Rattle.ot_logic.specs.Lists.{IsMember}
 use Rattle.ot_trace.specs.Origins.{Origin, Origins, Number, Named, Make, Define, Outcome}
 use Rattle.ot_trace.specs.Origins.{NoOrigins, MoreOrigins, listed, operands, parts, parts_all}
-use Rattle.ot_plain.proofs.Members.{IsMember-cases, IsMember-left, IsMember-right}
+use Rattle.ot_logic.proofs.Members.{IsMember-cases, IsMember-left, IsMember-right}
 
 module _ {N : Type 0} where
   pub part-self : (o : Origin N) → IsMember o (parts o)

@@ -5,7 +5,7 @@ use Rattle.std.specs.Prelude.{pos, nat_le, ◌||◌}
 use Rattle.std.specs.Bool.{Decides}
 use Rattle.std.specs.Option.{option_map}
 use Rattle.std.specs.List.{flat_map, filter, list_any}
-use Rattle.ot_plain.specs.declared.command.Cmd.TheVariants as words
+use Rattle.ot_logic.specs.declared.command.Cmd.TheVariants as words
 use Rattle.ot_trace.specs.Origins.{Origin, Origins, Number, Named, Make, Define, Outcome, NoOrigins}
 use Rattle.ot_trace.specs.Origins.{MoreOrigins, listed, operands, at_or, operand, parts, parts_all}
 use Rattle.ot_trace.specs.Origins.{elements, constant_origin, symbols, map_origin, map_origins}
@@ -18,7 +18,7 @@ use Rattle.ot_written.specs.Bytes.{line_with}
 use Rattle.ot_written.specs.Laws.{roots_with, RenamedArticleLaw}
 use Rattle.ot_trace.specs.Uses.{count}
 use Rattle.ot_written.proofs.Filters.{bool_cases}
-use Rattle.ot_plain.proofs.Elements.{list_any-image}
+use Rattle.ot_logic.proofs.Elements.{list_any-image}
 use Rattle.std.proofs.lemmas.List.{map-append, length-map}
 
 pub filter-map : {X Y : Type 0} (f : X → Y) (p : Y → Bool) (q : X → Bool) → ((x : X) → p (f x) ≡ q x) → (xs : List X)

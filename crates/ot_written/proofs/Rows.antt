@@ -1,10 +1,10 @@
 -- Articles line by line, and needed definitions.
 use Rattle.std.proofs.Common.{◌≡◌, ℕ, Bool, true, [], ◌∷◌, refl}
 use Rattle.std.specs.Prelude.{pos, nat_eq}
-use Rattle.ot_plain.specs.declared.command.Cmd.{Cmd}
-use Rattle.ot_plain.specs.declared.command.Cmd.TheVariants.{Version, Nil, Cons, Def, Ref, Pop, TypeOp, OpType}
-use Rattle.ot_plain.specs.declared.command.Cmd.TheVariants.{Var, VarTerm, Const, ConstTerm, AppTerm, AbsTerm}
-use Rattle.ot_plain.specs.declared.command.Cmd.TheVariants.{Refl, Assume, Thm, DefineConst, DefineConstList}
+use Rattle.ot_logic.specs.declared.command.Cmd.{Cmd}
+use Rattle.ot_logic.specs.declared.command.Cmd.TheVariants.{Version, Nil, Cons, Def, Ref, Pop, TypeOp, OpType}
+use Rattle.ot_logic.specs.declared.command.Cmd.TheVariants.{Var, VarTerm, Const, ConstTerm, AppTerm, AbsTerm}
+use Rattle.ot_logic.specs.declared.command.Cmd.TheVariants.{Refl, Assume, Thm, DefineConst, DefineConstList}
 use Rattle.ot_trace.specs.Origins.{Origin, Named, Make, Define, Outcome, NoOrigins, MoreOrigins, Roots}
 use Rattle.ot_written.specs.Same.{same_origin}
 use Rattle.ot_written.specs.Written.{Line, Numeral, Spelled, Order, roots_of}

@@ -4,7 +4,7 @@ use Rattle.std.proofs.Common.{length, map, slice_get, Some, arith, refl, sym, ap
 use Rattle.std.specs.Prelude.{◌↔◌}
 use Rattle.std.specs.Bool.{Decides}
 use Rattle.std.specs.List.{filter, list_any}
-use Rattle.ot_plain.specs.Lists.{IsMember, AreDistinct}
+use Rattle.ot_logic.specs.Lists.{IsMember, AreDistinct}
 use Rattle.ot_trace.specs.Origins.{Origin, Outcome, operands}
 use Rattle.ot_trace.specs.Reach.{IsReached, Root, Operand, OfTheorem, OfSymbol}
 use Rattle.ot_written.specs.Needed.{firsts, touches, needed_definitions}
@@ -16,7 +16,7 @@ use Rattle.ot_written.proofs.Marked.{AreMarked}
 use Rattle.std.proofs.Common.{◌++◌}
 use Rattle.ot_written.proofs.Filters.{bool_cases, filter-to, filter-from, filter-same}
 use Rattle.ot_written.proofs.NeededDefinitions.{needed-filter, needed-reached, reached-needed, firsts-to}
-use Rattle.ot_plain.proofs.Members.{IsMember-map_back}
+use Rattle.ot_logic.proofs.Members.{IsMember-map_back}
 
 pub needed-by-test : {N : Type 0} (same : Origin N → Origin N → Bool)
     → ((a b : Origin N) → Decides (same a b) (a ≡ b)) → (roots ds : List (Origin N)) (test : Origin N → Bool)

@@ -1,7 +1,7 @@
 -- The laws of what is needed, and of the written article, that speak of no run.
 use Rattle.std.specs.Prelude.{◌≡◌, ◌↔◌, Bool, true, List, map}
 use Rattle.std.specs.Bool.{Decides}
-use Rattle.ot_plain.specs.Lists.{IsMember}
+use Rattle.ot_logic.specs.Lists.{IsMember}
 use Rattle.ot_trace.specs.Origins.{Origin, Roots, map_origin}
 use Rattle.ot_trace.specs.Reach.{IsReached}
 use Rattle.ot_written.specs.Same.{same_origin}

@@ -1,7 +1,7 @@
 -- What is needed by roots, among definitions: what the roots lead to.
 use Rattle.std.specs.Prelude.{◌≡◌, ◌↔◌, ◌⊎◌, ℕ, zero, suc, Bool, ◌||◌, not, List, [], ◌∷◌, ◌++◌, length}
 use Rattle.std.specs.List.{flat_map, filter, list_any}
-use Rattle.ot_plain.specs.Lists.{IsMember, AreDistinct, IsPart}
+use Rattle.ot_logic.specs.Lists.{IsMember, AreDistinct, IsPart}
 use Rattle.ot_trace.specs.Origins.{Origin, parts, symbols}
 use Rattle.ot_trace.specs.Reach.{IsReached}
 

@@ -2,8 +2,8 @@
 use Rattle.std.specs.Prelude.{◌&&◌, nat_eq, Bool, true, false}
 use Rattle.std.specs.Ordering.{int_eq}
 use Rattle.std.specs.Str.{bytes_eq}
-use Rattle.ot_plain.specs.Commands.{spelling}
-use Rattle.ot_plain.specs.declared.command.Cmd.{Cmd}
+use Rattle.ot_logic.specs.Commands.{spelling}
+use Rattle.ot_logic.specs.declared.command.Cmd.{Cmd}
 use Rattle.ot_trace.specs.Origins.{Origin, Origins, Number, Named, Make, Define, Outcome, NoOrigins, MoreOrigins}
 
 abbrev pub same_word : Cmd → Cmd → Bool

@@ -1,6 +1,6 @@
 -- How often the needed origins are used, which of them are stored, and the article that is written.
 use Rattle.std.specs.Prelude.{◌≡◌, ◌≤◌, ℕ, Bool, true, List, nat_le}
-use Rattle.ot_plain.specs.Lists.{IsMember}
+use Rattle.ot_logic.specs.Lists.{IsMember}
 use Rattle.ot_trace.specs.Origins.{Origin, Roots}
 use Rattle.ot_trace.specs.Uses.{uses}
 use Rattle.ot_written.specs.Needed.{needed_origins, needed_definitions}

@@ -1,6 +1,6 @@
 //! Laws of what is needed for exports and of their written article: each call has an empty body, and its postcondition is a theorem.
 ghost use Rattle.std.specs.Prelude.{ℕ};
-ghost use Rattle.ot_plain.specs.Names.{Name};
+ghost use Rattle.ot_logic.specs.Names.{Name};
 ghost use Rattle.ot_written.specs.Laws.{NeededSetLaw, RenamedArticleLaw, SameOriginLaw, StoredEnoughLaw};
 
 /// The needed definitions are those that the roots lead to, the least closed set, in their old order and each once;

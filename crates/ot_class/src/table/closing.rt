@@ -1,13 +1,13 @@
 //! How a free variable of a nameless term becomes the place of an abstraction around it.
 ghost use Rattle.std.specs.Prelude.{◌≡◌, ◌<◌, ◌+◌, ◌^◌, Some, slice_get, length, IfOk, OnOk};
-ghost use Rattle.ot_plain.specs.Table.{Extends, IsInjective};
-ghost use Rattle.ot_plain.specs.Hol.{close_at};
-ghost use Rattle.ot_plain.specs.Naming.{numbers};
+ghost use Rattle.ot_logic.specs.Table.{Extends, IsInjective};
+ghost use Rattle.ot_logic.specs.Hol.{close_at};
+ghost use Rattle.ot_logic.specs.Naming.{numbers};
 
 use crate::node::{ClassId, ClassNode, Key};
 use crate::table::Classes;
 use indexmap::IndexMap;
-use ot_plain::Memory;
+use ot_logic::Memory;
 
 /// A tree with more nodes than this is worked on once in a call, at each depth.
 pub(super) const SMALL: u16 = 32;

@@ -1,15 +1,15 @@
 //! The free variables of a nameless term, and the types at which those of one name are free in it.
 ghost use Rattle.std.specs.Prelude.{◌≡◌, ◌↔◌, ◌<◌, ℕ, nat_eq, length, IfOk, OnOk};
 ghost use Rattle.indexmap.specs.IndexSet.{insert_key};
-ghost use Rattle.ot_plain.specs.Lists.{IsMember, AreDistinct};
-ghost use Rattle.ot_plain.specs.Hol.{IsFree};
-ghost use Rattle.ot_plain.specs.Naming.{numbers};
+ghost use Rattle.ot_logic.specs.Lists.{IsMember, AreDistinct};
+ghost use Rattle.ot_logic.specs.Hol.{IsFree};
+ghost use Rattle.ot_logic.specs.Naming.{numbers};
 
 use crate::node::{ClassId, ClassNode, Key};
 use crate::table::Classes;
 use crate::table::closing::SMALL;
 use indexmap::IndexSet;
-use ot_plain::{Memory, NameId};
+use ot_logic::{Memory, NameId};
 use ot_type::TypeId;
 use std::alloc::Global;
 

@@ -1,4 +1,4 @@
-use Rattle.ot_plain.specs.Naming.{names, numbers}
+use Rattle.ot_logic.specs.Naming.{names, numbers}
 use Rattle.ot_laws.proofs.Laws.{growth}
 use Rattle.ot_laws.proofs.growth_law.Goals as goal
 

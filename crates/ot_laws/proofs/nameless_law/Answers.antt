@@ -1,4 +1,4 @@
-use Rattle.ot_plain.specs.Naming.{names, numbers}
+use Rattle.ot_logic.specs.Naming.{names, numbers}
 use Rattle.ot_laws.proofs.Tests.{tells_names, tells_numbers}
 use Rattle.ot_laws.proofs.Named.{nameless_in-nil, free-nameless, nameless-free}
 use Rattle.ot_laws.proofs.nameless_law.Goals as goal

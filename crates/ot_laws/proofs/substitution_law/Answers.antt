@@ -1,4 +1,4 @@
-use Rattle.ot_plain.specs.Naming.{names, numbers}
+use Rattle.ot_logic.specs.Naming.{names, numbers}
 use Rattle.ot_laws.proofs.Tests.{tells_names, tells_numbers}
 use Rattle.ot_laws.proofs.Apply.{apply_by-is}
 use Rattle.ot_laws.proofs.New.{binders_of_names, binders_of_numbers}

@@ -2,7 +2,7 @@
 //! the run is as before.
 ghost use Rattle.std.specs.Prelude.{◌≡◌, ◌<◌, ◌∷◌, [], length, map, IfOk};
 ghost use Rattle.std.specs.List.{All};
-ghost use Rattle.ot_plain.specs.Naming.{names};
+ghost use Rattle.ot_logic.specs.Naming.{names};
 ghost use Rattle.ot_kernel.specs.State.{name_at, variable_at, term_at, theorem_at};
 ghost use Rattle.ot_kernel.specs.Defining.{const_definition, list_definition};
 ghost use Rattle.ot_machine.specs.Rows.{defined, theorem_entries};
@@ -15,7 +15,7 @@ use crate::fault::Fault;
 use crate::machine::Machine;
 use crate::session::Session;
 use ot_kernel::ThmId;
-use ot_plain::NameId;
+use ot_logic::NameId;
 use ot_term::{TermId, VarKey};
 use ot_trace::StepId;
 

@@ -3,10 +3,10 @@ ghost use Rattle.std.specs.Prelude.{◌≡◌, ◌<◌, ◌≤◌, length, map, 
 ghost use Rattle.std.specs.Prelude.{IfOk, IfSome, MatchBool, vec_len};
 ghost use Rattle.std.specs.List.{All};
 ghost use Rattle.std.specs.Option.{option_map};
-ghost use Rattle.ot_plain.specs.Faults.{NotBool};
-ghost use Rattle.ot_plain.specs.Hol.{once_each};
-ghost use Rattle.ot_plain.specs.Naming.{names};
-ghost use Rattle.ot_plain.specs.declared.command.Cmd.TheVariants as words;
+ghost use Rattle.ot_logic.specs.Faults.{NotBool};
+ghost use Rattle.ot_logic.specs.Hol.{once_each};
+ghost use Rattle.ot_logic.specs.Naming.{names};
+ghost use Rattle.ot_logic.specs.declared.command.Cmd.TheVariants as words;
 ghost use Rattle.ot_kernel.specs.Axioms.{axiom_rule};
 ghost use Rattle.ot_kernel.specs.State.{term_at};
 ghost use Rattle.ot_trace.specs.Origins.{Make};
@@ -23,7 +23,7 @@ use crate::context::{Context, Given};
 use crate::fault::Fault;
 use crate::machine::Machine;
 use crate::session::Session;
-use ot_plain::{Cmd, Memory};
+use ot_logic::{Cmd, Memory};
 use ot_term::TermId;
 use ot_trace::StepId;
 
@@ -34,19 +34,19 @@ impl Session {
     pub(crate) fn axiom(
         &mut self,
         machine: &Machine,
-        ctx: &Context<'_>,
+        context: &Context<'_>,
         hyps: &[TermId],
         list_step: StepId,
         concl: TermId,
     ) -> Result<Given, Fault>
         requires of { IsOf self.old machine.now }
-        requires context { IsContextOf self.old ctx.now }
+        requires context { IsContextOf self.old context.now }
         requires hyps { All (λ t. t < length self.old.kernel.terms) hyps.now }
         requires list_step { list_step < length self.old.trace }
         requires concl { concl < length self.old.kernel.terms }
         requires there { 2 ≤ vec_len machine.now.stack }
         ensures made { Makes self.new.kernel (λ g. (theorem_entry (given_of self.new g), run_of self.new)) result
-            (used (context_of self.old ctx.now) (map (term_at self.old.kernel) hyps.now)
+            (used (context_of self.old context.now) (map (term_at self.old.kernel) hyps.now)
             (term_at self.old.kernel concl) (origin_of self.old list_step)
             (origins_of (top 2 (article_of self.old machine.now).stack)) (run_of self.old)) }
         ensures theorem { IfOk result (λ g. g.th < length self.new.kernel.theorems) }
@@ -57,7 +57,7 @@ impl Session {
         if !proper {
             return Err(Fault::NotBool);
         }
-        self.proper_axiom(machine, ctx, hyps, list_step, concl)
+        self.proper_axiom(machine, context, hyps, list_step, concl)
     }
 
     /// Whether these are all propositions.
@@ -87,13 +87,13 @@ impl Session {
     fn proper_axiom(
         &mut self,
         machine: &Machine,
-        ctx: &Context<'_>,
+        context: &Context<'_>,
         hyps: &[TermId],
         list_step: StepId,
         concl: TermId,
     ) -> Result<Given, Fault>
         requires of { IsOf self.old machine.now }
-        requires context { IsContextOf self.old ctx.now }
+        requires context { IsContextOf self.old context.now }
         requires hyps { All (λ t. t < length self.old.kernel.terms) hyps.now }
         requires list_step { list_step < length self.old.trace }
         requires concl { concl < length self.old.kernel.terms }
@@ -101,14 +101,14 @@ impl Session {
         requires proper { let hs = map (term_at self.old.kernel) hyps.now in let p = term_at self.old.kernel concl in
             axiom_rule hs p ≡ Ok (record { hyps = once_each names hs; concl = p }) }
         ensures made { Makes self.new.kernel (λ g. (theorem_entry (given_of self.new g), run_of self.new)) result
-            (used (context_of self.old ctx.now) (map (term_at self.old.kernel) hyps.now)
+            (used (context_of self.old context.now) (map (term_at self.old.kernel) hyps.now)
             (term_at self.old.kernel concl) (origin_of self.old list_step)
             (origins_of (top 2 (article_of self.old machine.now).stack)) (run_of self.old)) }
         ensures theorem { IfOk result (λ g. g.th < length self.new.kernel.theorems) }
         ensures step { IfOk result (λ g. g.step < length self.new.trace) }
         ensures adds { Adds result self.old self.new machine.now }
     {
-        if let Some(given) = self.given_for(ctx, hyps, concl) {
+        if let Some(given) = self.given_for(context, hyps, concl) {
             return self.weakened(machine, given, hyps, list_step);
         }
         if let Some(given) = self.assumed(hyps, concl) {

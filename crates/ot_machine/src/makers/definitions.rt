@@ -2,10 +2,10 @@
 //! numbers keep their names.
 ghost use Rattle.std.specs.Prelude.{◌≡◌, ◌<◌, ◌∷◌, [], length, map, IfOk};
 ghost use Rattle.std.specs.List.{All};
-ghost use Rattle.ot_plain.specs.Naming.{names};
+ghost use Rattle.ot_logic.specs.Naming.{names};
 ghost use Rattle.ot_kernel.specs.State.{name_at, variable_at, term_at, theorem_at};
 ghost use Rattle.ot_kernel.specs.Defining.{const_definition, list_definition};
-ghost use Rattle.ot_plain.specs.declared.command.Cmd.TheVariants as words;
+ghost use Rattle.ot_logic.specs.declared.command.Cmd.TheVariants as words;
 ghost use Rattle.ot_interp.specs.Interpretation.{renamed};
 ghost use Rattle.ot_trace.specs.Origins.{Named, Define, from_list, constant_origin, renamed_pairs};
 ghost use Rattle.ot_machine.specs.Objects.{theorem};
@@ -23,7 +23,7 @@ use crate::fault::Fault;
 use crate::machine::{Machine, Version};
 use crate::session::Session;
 use ot_kernel::ThmId;
-use ot_plain::{Cmd, Memory, NameId};
+use ot_logic::{Cmd, Memory, NameId};
 use ot_term::{TermId, VarKey};
 use ot_trace::StepId;
 
@@ -135,7 +135,7 @@ impl Session {
     pub(crate) fn list_definition(
         &mut self,
         machine: &Machine,
-        ctx: &Context<'_>,
+        context: &Context<'_>,
         constants: &[NameId],
         variables: &[VarKey],
         list_step: StepId,
@@ -143,7 +143,7 @@ impl Session {
         premise_step: StepId,
     ) -> Result<(ThmId, StepId), Fault>
         requires of { IsOf self.old machine.now }
-        requires context { IsContextOf self.old ctx.now }
+        requires context { IsContextOf self.old context.now }
         requires constants { All (λ n. n < length self.old.kernel.names) constants.now }
         requires variables { All (λ v. (v.name < length self.old.kernel.names) × (v.ty < length self.old.kernel.types))
             variables.now }
@@ -161,12 +161,13 @@ impl Session {
             )) result
             (defined (λ ds. list_definition names ds (map (name_at self.old.kernel) constants.now)
             (map (variable_at self.old.kernel) variables.now) (theorem_at self.old.kernel premise))
-            (list_defining (context_of self.old ctx.now) (article_of self.old machine.now).stack) (run_of self.old)) }
+            (list_defining (context_of self.old context.now) (article_of self.old machine.now).stack)
+            (run_of self.old)) }
         ensures theorem { IfOk result (λ d. d.0 < length self.new.kernel.theorems) }
         ensures step { IfOk result (λ d. d.1 < length self.new.trace) }
         ensures adds { Adds result self.old self.new machine.now }
     {
-        let definition = self.list_defining(machine, ctx, list_step, premise_step)?;
+        let definition = self.list_defining(machine, context, list_step, premise_step)?;
         let step = self.outcome_step(machine, 1, definition)?;
         let theorem = self.accept_list(machine, constants, variables, premise, definition)?;
         Ok((theorem, step))
@@ -176,21 +177,21 @@ impl Session {
     fn list_defining(
         &mut self,
         machine: &Machine,
-        ctx: &Context<'_>,
+        context: &Context<'_>,
         list_step: StepId,
         premise_step: StepId,
     ) -> Result<StepId, Memory>
         requires of { IsOf self.old machine.now }
-        requires context { IsContextOf self.old ctx.now }
+        requires context { IsContextOf self.old context.now }
         requires list_step { list_step < length self.old.trace }
         requires premise_step { premise_step < length self.old.trace }
         ensures { MakesStep result
             (Define words.DefineConstList (from_list (renamed_pairs (renamed names
-            (context_of self.old ctx.now).interpretation.constants)
+            (context_of self.old context.now).interpretation.constants)
             (origin_of self.old list_step) ∷ origin_of self.old premise_step ∷ [])))
             self.old self.new machine.now }
     {
-        let (list, symbols) = self.renamed_list(machine, ctx, list_step)?;
+        let (list, symbols) = self.renamed_list(machine, context, list_step)?;
         Ok(self.defining_step(
             machine,
             Cmd::DefineConstList,

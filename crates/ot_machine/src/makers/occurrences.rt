@@ -1,15 +1,15 @@
 //! Whether variables are free in terms. What is shared is asked once for each variable.
 ghost use Rattle.std.specs.Prelude.{◌<◌, ◌+◌, ◌*◌, length, IfOk, OnOk};
 ghost use Rattle.std.specs.Bool.{Decides};
-ghost use Rattle.ot_plain.specs.Naming.{names};
-ghost use Rattle.ot_plain.specs.Hol.{IsFreeIn};
+ghost use Rattle.ot_logic.specs.Naming.{names};
+ghost use Rattle.ot_logic.specs.NamedTerms.{IsFreeIn};
 ghost use Rattle.ot_kernel.specs.State.{variable_at, named_at};
 ghost use Rattle.ot_view.specs.Nodes.{IsKey};
 ghost use Rattle.ot_machine.specs.Occurrences.{AreOccurrences};
 
 use indexmap::IndexMap;
 use ot_kernel::Kernel;
-use ot_plain::Memory;
+use ot_logic::Memory;
 use ot_term::{TermId, TermNode, VarKey};
 use ot_view::{same_variable, term_node};
 

@@ -1,7 +1,7 @@
 //! The two theorems of a type operator in an article of version 5, with the steps that derive them from its definition.
 ghost use Rattle.std.specs.Prelude.{◌≡◌, ◌<◌, [], length, IfOk};
-ghost use Rattle.ot_plain.specs.Naming.{names};
-ghost use Rattle.ot_plain.specs.declared.command.Cmd.TheVariants as words;
+ghost use Rattle.ot_logic.specs.Naming.{names};
+ghost use Rattle.ot_logic.specs.declared.command.Cmd.TheVariants as words;
 ghost use Rattle.ot_kernel.specs.State.{name_at, theorem_at};
 ghost use Rattle.ot_trace.specs.Origins.{Named, make_two, type_op_origin};
 ghost use Rattle.ot_machine.specs.Defining.{open_defined, stated, origin_by, operator_theorems};
@@ -21,7 +21,7 @@ use crate::makers::canonical::Known;
 use crate::makers::definitions::DefinedOperator;
 use crate::session::Session;
 use ot_kernel::ThmId;
-use ot_plain::{Cmd, Memory, NameId};
+use ot_logic::{Cmd, Memory, NameId};
 use ot_term::TermNode;
 use ot_trace::StepId;
 use ot_view::{term_node, type_of};

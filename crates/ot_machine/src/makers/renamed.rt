@@ -2,9 +2,9 @@
 //! of this session, along its cons tree.
 ghost use Rattle.std.specs.Prelude.{◌≡◌, ◌<◌, ℕ, [], length, map, IfOk, IfSome, IfNone};
 ghost use Rattle.std.specs.List.{All};
-ghost use Rattle.ot_plain.specs.Names.{Name};
-ghost use Rattle.ot_plain.specs.Naming.{names};
-ghost use Rattle.ot_plain.specs.declared.command.Cmd.TheVariants as words;
+ghost use Rattle.ot_logic.specs.Names.{Name};
+ghost use Rattle.ot_logic.specs.Naming.{names};
+ghost use Rattle.ot_logic.specs.declared.command.Cmd.TheVariants as words;
 ghost use Rattle.ot_interp.specs.Interpretation.{renamed};
 ghost use Rattle.ot_kernel.specs.State.{name_at};
 ghost use Rattle.ot_trace.specs.Origins.{elements, operand, constant_origin, make_two, renamed_first, renamed_pairs};
@@ -17,7 +17,7 @@ ghost use Rattle.ot_machine.specs.RenamedLists.{cons_numbers, list_onto, read_by
 use crate::context::Context;
 use crate::machine::Machine;
 use crate::session::Session;
-use ot_plain::{Cmd, Memory, NameId};
+use ot_logic::{Cmd, Memory, NameId};
 use ot_trace::{Step, StepId};
 use std::alloc::Global;
 
@@ -27,14 +27,14 @@ impl Session {
     pub(crate) fn renamed_list(
         &mut self,
         machine: &Machine,
-        ctx: &Context<'_>,
+        context: &Context<'_>,
         list: StepId,
     ) -> Result<(StepId, Vec<StepId>), Memory>
         requires of { IsOf self.old machine.now }
-        requires context { IsContextOf self.old ctx.now }
+        requires context { IsContextOf self.old context.now }
         requires list { list < length self.old.trace }
         ensures made { IfOk result (λ p. origin_of self.new p.0
-            ≡ renamed_pairs (renamed names (context_of self.old ctx.now).interpretation.constants)
+            ≡ renamed_pairs (renamed names (context_of self.old context.now).interpretation.constants)
             (origin_of self.old list)) }
         ensures symbols { IfOk result (λ p. map (origin_at self.new.trace) p.1.items
             ≡ map (λ pair. constant_origin (operand 0 pair)) (elements (origin_at self.new.trace p.0))) }
@@ -43,7 +43,7 @@ impl Session {
         ensures kept { Traces self.old self.new machine.now }
     {
         let (found, end) = self.elements_of(machine.alloc, list)?;
-        let pairs = self.renamed_each(machine, ctx, &found)?;
+        let pairs = self.renamed_each(machine, context, &found)?;
         let list = self.list_step(machine, &pairs, end)?;
         let symbols = self.symbols_of(machine, &pairs)?;
         Ok((list, symbols))
@@ -88,20 +88,20 @@ impl Session {
     fn renamed_each(
         &mut self,
         machine: &Machine,
-        ctx: &Context<'_>,
+        context: &Context<'_>,
         pairs: &[StepId],
     ) -> Result<Vec<StepId>, Memory>
         requires of { IsOf self.old machine.now }
-        requires context { IsContextOf self.old ctx.now }
+        requires context { IsContextOf self.old context.now }
         requires inside { All (λ i. i < length self.old.trace) pairs.now }
         ensures made { IfOk result (λ v. map (origin_of self.new) v.items
-            ≡ map (λ i. renamed_first (read_by self.old ctx.now) (origin_of self.old i)) pairs.now) }
+            ≡ map (λ i. renamed_first (read_by self.old context.now) (origin_of self.old i)) pairs.now) }
         ensures inside { IfOk result (λ v. All (λ i. i < length self.new.trace) v.items) }
         ensures kept { Traces self.old self.new machine.now }
     {
         let mut steps = Vec::new(machine.alloc);
         for pair in pairs {
-            let step = self.renamed_begin(machine, ctx, *pair)?;
+            let step = self.renamed_begin(machine, context, *pair)?;
             steps.push(step)?;
         }
         Ok(steps)
@@ -111,19 +111,19 @@ impl Session {
     fn renamed_begin(
         &mut self,
         machine: &Machine,
-        ctx: &Context<'_>,
+        context: &Context<'_>,
         pair: StepId,
     ) -> Result<StepId, Memory>
         requires of { IsOf self.old machine.now }
-        requires context { IsContextOf self.old ctx.now }
+        requires context { IsContextOf self.old context.now }
         requires inside { pair < length self.old.trace }
         ensures { MakesStep result
-            (renamed_first (read_by self.old ctx.now) (origin_of self.old pair))
+            (renamed_first (read_by self.old context.now) (origin_of self.old pair))
             self.old self.new machine.now }
     {
         match self.begin_of(machine, pair) {
             Some(name) => {
-                let named = self.constant_named(ctx, name);
+                let named = self.constant_named(context, name);
                 self.begun_with(machine, pair, named)
             }
             None => Ok(pair),

@@ -3,9 +3,9 @@
 ghost use Rattle.std.specs.Prelude.{◌≡◌, ◌<◌, Result, length, map, IfOk, IfSome};
 ghost use Rattle.std.specs.List.{All};
 ghost use Rattle.std.specs.Option.{option_map};
-ghost use Rattle.ot_plain.specs.Names.{Name};
-ghost use Rattle.ot_plain.specs.Trees.{Sequent};
-ghost use Rattle.ot_plain.specs.Faults.{Fault as StatedFault};
+ghost use Rattle.ot_logic.specs.Names.{Name};
+ghost use Rattle.ot_logic.specs.Trees.{Sequent};
+ghost use Rattle.ot_logic.specs.Faults.{Fault as StatedFault};
 ghost use Rattle.ot_kernel.specs.State.{State, term_at, theorem_at};
 ghost use Rattle.ot_kernel.specs.Answers.{Concludes};
 ghost use Rattle.ot_trace.specs.Origins.{Make, from_list};
@@ -23,7 +23,7 @@ use crate::fault::Fault;
 use crate::machine::Machine;
 use crate::session::Session;
 use ot_kernel::{RuleFault, ThmId};
-use ot_plain::Cmd;
+use ot_logic::Cmd;
 use ot_term::TermId;
 use ot_trace::StepId;
 
@@ -31,11 +31,11 @@ impl Session {
     /// The first theorem of the context with this conclusion and with hypotheses among these.
     pub(crate) fn given_for(
         &self,
-        ctx: &Context<'_>,
+        context: &Context<'_>,
         hyps: &[TermId],
         concl: TermId,
     ) -> Option<Given>
-        requires context { IsContextOf self.now ctx.now }
+        requires context { IsContextOf self.now context.now }
         requires hyps { All (λ t. t < length self.now.kernel.terms) hyps.now }
         requires concl { concl < length self.now.kernel.terms }
         ensures theorem { IfSome result (λ g. g.th < length self.now.kernel.theorems) }
@@ -45,10 +45,10 @@ impl Session {
               hyps = map (term_at self.now.kernel) hyps.now;
               concl = term_at self.now.kernel
                   concl;
-            }) (context_of self.now ctx.now).theorems }
+            }) (context_of self.now context.now).theorems }
     {
-        match self.kernel.place_of(ctx.places, concl) {
-            Some(place) => self.first_given(&ctx.theorems[place..], hyps, concl),
+        match self.kernel.place_of(context.places, concl) {
+            Some(place) => self.first_given(&context.theorems[place..], hyps, concl),
             None => None,
         }
     }

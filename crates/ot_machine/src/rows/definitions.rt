@@ -1,6 +1,6 @@
 //! The rows of the commands that add a definition, of symbols as the context reads their names.
 ghost use Rattle.ot_machine.specs.Meaning.{version_of, IsOf};
-ghost use Rattle.ot_machine.specs.Answers.{Turns};
+ghost use Rattle.ot_machine.specs.Answers.{TakesRow};
 ghost use Rattle.ot_machine.specs.Contexts.{context_of, IsContextOf};
 ghost use Rattle.ot_machine.specs.Rows.{define_const_row, define_const_list_row};
 ghost use Rattle.ot_machine.specs.Step.{define_type_row};
@@ -11,23 +11,23 @@ use crate::fault::Fault;
 use crate::machine::{Machine, Version};
 use crate::object::{Entry, Object};
 use crate::session::Session;
-use ot_plain::Cmd;
+use ot_logic::Cmd;
 use std::alloc::Global;
 
 /// `defineConst` defines a constant as a term.
 pub fn define_const(
     session: &mut Session,
     machine: &mut Machine,
-    ctx: &Context<'_>,
+    context: &Context<'_>,
 ) -> Result<(), Fault>
     requires of { IsOf session.old machine.old }
-    requires context { IsContextOf session.old ctx.now }
-    ensures { Turns result (define_const_row (context_of session.old ctx.now)) session.old machine.old session.new
-        machine.new }
+    requires context { IsContextOf session.old context.now }
+    ensures { TakesRow result (define_const_row (context_of session.old context.now)) session.old machine.old
+        session.new machine.new }
 {
     let (term, term_step) = session.term_entry(machine, 0)?;
     let name = session.name_on(machine, 1)?;
-    let named = session.constant_named(ctx, name);
+    let named = session.constant_named(context, name);
     let defined = session.constant_definition(machine, named, term, term_step)?;
     session.exchange(
         machine,
@@ -50,24 +50,24 @@ pub fn define_const_list(
     alloc: Global,
     session: &mut Session,
     machine: &mut Machine,
-    ctx: &Context<'_>,
+    context: &Context<'_>,
 ) -> Result<(), Fault>
     requires of { IsOf session.old machine.old }
-    requires context { IsContextOf session.old ctx.now }
-    ensures { Turns result (define_const_list_row (context_of session.old ctx.now)) session.old machine.old
+    requires context { IsContextOf session.old context.now }
+    ensures { TakesRow result (define_const_list_row (context_of session.old context.now)) session.old machine.old
         session.new machine.new }
 {
     let (premise, premise_step) = session.theorem_entry(machine, 0)?;
     let (list, list_step) = session.list_entry(machine, 1)?;
     let pairs = session.pairs_of(alloc, machine, list)?;
-    let names = session.constants_named(alloc, ctx, &pairs)?;
+    let names = session.constants_named(alloc, context, &pairs)?;
     let variables = variables_of(alloc, &pairs)?;
     // The list of the constants is made first, so that nothing is refused after the definition.
     let constants = session.constants(machine, &names)?;
     let step = session.symbol_list_step(machine, Cmd::Const, &names)?;
     let (theorem, theorem_step) = session.list_definition(
         machine,
-        ctx,
+        context,
         &names,
         &variables,
         list_step,
@@ -96,12 +96,12 @@ pub fn define_type(
     alloc: Global,
     session: &mut Session,
     machine: &mut Machine,
-    ctx: &Context<'_>,
+    context: &Context<'_>,
     version: Version,
 ) -> Result<(), Fault>
     requires of { IsOf session.old machine.old }
-    requires context { IsContextOf session.old ctx.now }
-    ensures { Turns result (define_type_row (version_of version) (context_of session.old ctx.now)) session.old
+    requires context { IsContextOf session.old context.now }
+    ensures { TakesRow result (define_type_row (version_of version) (context_of session.old context.now)) session.old
         machine.old session.new machine.new }
 {
     let (premise, premise_step) = session.theorem_entry(machine, 0)?;
@@ -109,9 +109,9 @@ pub fn define_type(
     let rep = session.name_on(machine, 2)?;
     let abs = session.name_on(machine, 3)?;
     let name = session.name_on(machine, 4)?;
-    let rep = session.constant_named(ctx, rep);
-    let abs = session.constant_named(ctx, abs);
-    let name = session.type_op_named(ctx, name);
+    let rep = session.constant_named(context, rep);
+    let abs = session.constant_named(context, abs);
+    let name = session.type_op_named(context, name);
     let defined = session.type_definition(
         machine,
         version,

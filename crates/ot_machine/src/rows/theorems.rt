@@ -1,7 +1,7 @@
 //! The rows of the commands for theorems.
-ghost use Rattle.ot_plain.specs.declared.command.Cmd.TheVariants as words;
+ghost use Rattle.ot_logic.specs.declared.command.Cmd.TheVariants as words;
 ghost use Rattle.ot_machine.specs.Meaning.{IsOf};
-ghost use Rattle.ot_machine.specs.Answers.{Turns};
+ghost use Rattle.ot_machine.specs.Answers.{TakesRow};
 ghost use Rattle.ot_machine.specs.Contexts.{context_of, IsContextOf};
 ghost use Rattle.ot_machine.specs.Step.{on_article, on_stack};
 ghost use Rattle.ot_machine.specs.Rows.{making, thm_row};
@@ -12,13 +12,13 @@ use crate::fault::Fault;
 use crate::machine::Machine;
 use crate::object::Object;
 use crate::session::Session;
-use ot_plain::Cmd;
+use ot_logic::Cmd;
 use std::alloc::Global;
 
 /// `refl` makes the theorem that a term equals itself.
 pub fn refl(session: &mut Session, machine: &mut Machine) -> Result<(), Fault>
     requires { IsOf session.old machine.old }
-    ensures { Turns result (on_stack (making words.Refl)) session.old machine.old session.new machine.new }
+    ensures { TakesRow result (on_stack (making words.Refl)) session.old machine.old session.new machine.new }
 {
     let term = session.term_on(machine, 0)?;
     let answer = session.kernel.refl(term);
@@ -28,7 +28,7 @@ pub fn refl(session: &mut Session, machine: &mut Machine) -> Result<(), Fault>
 /// `assume` makes the theorem that a proposition follows from itself.
 pub fn assume(session: &mut Session, machine: &mut Machine) -> Result<(), Fault>
     requires { IsOf session.old machine.old }
-    ensures { Turns result (on_stack (making words.Assume)) session.old machine.old session.new machine.new }
+    ensures { TakesRow result (on_stack (making words.Assume)) session.old machine.old session.new machine.new }
 {
     let term = session.term_on(machine, 0)?;
     let answer = session.kernel.assume(term);
@@ -38,7 +38,7 @@ pub fn assume(session: &mut Session, machine: &mut Machine) -> Result<(), Fault>
 /// `eqMp` makes the right side of an equation from its left side.
 pub fn eq_mp(session: &mut Session, machine: &mut Machine) -> Result<(), Fault>
     requires { IsOf session.old machine.old }
-    ensures { Turns result (on_stack (making words.EqMp)) session.old machine.old session.new machine.new }
+    ensures { TakesRow result (on_stack (making words.EqMp)) session.old machine.old session.new machine.new }
 {
     let top = session.theorem_on(machine, 0)?;
     let lower = session.theorem_on(machine, 1)?;
@@ -49,7 +49,7 @@ pub fn eq_mp(session: &mut Session, machine: &mut Machine) -> Result<(), Fault>
 /// `absThm` makes the equation of the abstractions of a variable from both sides of an equation.
 pub fn abs_thm(session: &mut Session, machine: &mut Machine) -> Result<(), Fault>
     requires { IsOf session.old machine.old }
-    ensures { Turns result (on_stack (making words.AbsThm)) session.old machine.old session.new machine.new }
+    ensures { TakesRow result (on_stack (making words.AbsThm)) session.old machine.old session.new machine.new }
 {
     let premise = session.theorem_on(machine, 0)?;
     let variable = session.variable_on(machine, 1)?;
@@ -60,7 +60,7 @@ pub fn abs_thm(session: &mut Session, machine: &mut Machine) -> Result<(), Fault
 /// `appThm` applies an equation of functions to one of arguments.
 pub fn app_thm(session: &mut Session, machine: &mut Machine) -> Result<(), Fault>
     requires { IsOf session.old machine.old }
-    ensures { Turns result (on_stack (making words.AppThm)) session.old machine.old session.new machine.new }
+    ensures { TakesRow result (on_stack (making words.AppThm)) session.old machine.old session.new machine.new }
 {
     let top = session.theorem_on(machine, 0)?;
     let lower = session.theorem_on(machine, 1)?;
@@ -71,7 +71,8 @@ pub fn app_thm(session: &mut Session, machine: &mut Machine) -> Result<(), Fault
 /// `deductAntisym` makes two propositions equal that follow from each other.
 pub fn deduct_antisym(session: &mut Session, machine: &mut Machine) -> Result<(), Fault>
     requires { IsOf session.old machine.old }
-    ensures { Turns result (on_stack (making words.DeductAntisym)) session.old machine.old session.new machine.new }
+    ensures { TakesRow result (on_stack (making words.DeductAntisym)) session.old machine.old session.new
+        machine.new }
 {
     let top = session.theorem_on(machine, 0)?;
     let lower = session.theorem_on(machine, 1)?;
@@ -82,7 +83,7 @@ pub fn deduct_antisym(session: &mut Session, machine: &mut Machine) -> Result<()
 /// `betaConv` makes the theorem that a beta redex equals what it reduces to.
 pub fn beta_conv(session: &mut Session, machine: &mut Machine) -> Result<(), Fault>
     requires { IsOf session.old machine.old }
-    ensures { Turns result (on_stack (making words.BetaConv)) session.old machine.old session.new machine.new }
+    ensures { TakesRow result (on_stack (making words.BetaConv)) session.old machine.old session.new machine.new }
 {
     let term = session.term_on(machine, 0)?;
     let answer = session.kernel.beta_conv(term);
@@ -92,7 +93,7 @@ pub fn beta_conv(session: &mut Session, machine: &mut Machine) -> Result<(), Fau
 /// `sym` turns an equation round.
 pub fn sym(session: &mut Session, machine: &mut Machine) -> Result<(), Fault>
     requires { IsOf session.old machine.old }
-    ensures { Turns result (on_stack (making words.Sym)) session.old machine.old session.new machine.new }
+    ensures { TakesRow result (on_stack (making words.Sym)) session.old machine.old session.new machine.new }
 {
     let premise = session.theorem_on(machine, 0)?;
     let answer = session.kernel.sym(premise);
@@ -102,7 +103,7 @@ pub fn sym(session: &mut Session, machine: &mut Machine) -> Result<(), Fault>
 /// `trans` joins two equations.
 pub fn trans(session: &mut Session, machine: &mut Machine) -> Result<(), Fault>
     requires { IsOf session.old machine.old }
-    ensures { Turns result (on_stack (making words.Trans)) session.old machine.old session.new machine.new }
+    ensures { TakesRow result (on_stack (making words.Trans)) session.old machine.old session.new machine.new }
 {
     let top = session.theorem_on(machine, 0)?;
     let lower = session.theorem_on(machine, 1)?;
@@ -113,7 +114,7 @@ pub fn trans(session: &mut Session, machine: &mut Machine) -> Result<(), Fault>
 /// `proveHyp` takes what a theorem proves out of the hypotheses of another.
 pub fn prove_hyp(session: &mut Session, machine: &mut Machine) -> Result<(), Fault>
     requires { IsOf session.old machine.old }
-    ensures { Turns result (on_stack (making words.ProveHyp)) session.old machine.old session.new machine.new }
+    ensures { TakesRow result (on_stack (making words.ProveHyp)) session.old machine.old session.new machine.new }
 {
     let top = session.theorem_on(machine, 0)?;
     let lower = session.theorem_on(machine, 1)?;
@@ -124,7 +125,7 @@ pub fn prove_hyp(session: &mut Session, machine: &mut Machine) -> Result<(), Fau
 /// `subst` puts the maps of a list into a theorem.
 pub fn subst(alloc: Global, session: &mut Session, machine: &mut Machine) -> Result<(), Fault>
     requires { IsOf session.old machine.old }
-    ensures { Turns result (on_stack (making words.Subst)) session.old machine.old session.new machine.new }
+    ensures { TakesRow result (on_stack (making words.Subst)) session.old machine.old session.new machine.new }
 {
     let premise = session.theorem_on(machine, 0)?;
     let list = session.list_on(machine, 1)?;
@@ -138,17 +139,17 @@ pub fn axiom(
     alloc: Global,
     session: &mut Session,
     machine: &mut Machine,
-    ctx: &Context<'_>,
+    context: &Context<'_>,
 ) -> Result<(), Fault>
     requires of { IsOf session.old machine.old }
-    requires context { IsContextOf session.old ctx.now }
-    ensures { Turns result (axiom_row (context_of session.old ctx.now)) session.old machine.old session.new
+    requires context { IsContextOf session.old context.now }
+    ensures { TakesRow result (axiom_row (context_of session.old context.now)) session.old machine.old session.new
         machine.new }
 {
     let concl = session.term_on(machine, 0)?;
     let (list, list_step) = session.list_entry(machine, 1)?;
     let hyps = session.each_of(alloc, machine, list)?;
-    let given = session.axiom(machine, ctx, &hyps, list_step, concl)?;
+    let given = session.axiom(machine, context, &hyps, list_step, concl)?;
     session.replace(machine, 2, Object::Theorem(given.th), Some(given.step));
     Ok(())
 }
@@ -156,7 +157,7 @@ pub fn axiom(
 /// `thm` exports a theorem, which has to be the stated sequent.
 pub fn thm(alloc: Global, session: &mut Session, machine: &mut Machine) -> Result<(), Fault>
     requires { IsOf session.old machine.old }
-    ensures { Turns result (on_article thm_row) session.old machine.old session.new machine.new }
+    ensures { TakesRow result (on_article thm_row) session.old machine.old session.new machine.new }
 {
     let (concl, term) = session.term_entry(machine, 0)?;
     let (hyps, list) = session.terms_on(alloc, machine, 1)?;

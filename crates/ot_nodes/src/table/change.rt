@@ -2,14 +2,14 @@
 //! Parts that are shared are worked on once at each depth.
 ghost use Rattle.std.specs.Prelude.{◌≡◌, ◌<◌, ◌+◌, ◌^◌, IfOk, OnOk};
 ghost use Rattle.std.specs.Bool.{OnTrue};
-ghost use Rattle.ot_plain.specs.Table.{Extends};
-ghost use Rattle.ot_plain.specs.Trees.{Free};
+ghost use Rattle.ot_logic.specs.Table.{Extends};
+ghost use Rattle.ot_logic.specs.Trees.{Free};
 ghost use Rattle.ot_nodes.specs.Changing.{opened_at, inner_of};
 
 use crate::node::{NameId, TermId, TermNode, TypeId, TypeNode, VariableNode};
 use crate::table::Nodes;
 use indexmap::IndexMap;
-use ot_plain::Memory;
+use ot_logic::Memory;
 use smallvec::SmallVec;
 use std::alloc::Global;
 

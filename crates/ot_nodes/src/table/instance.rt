@@ -1,14 +1,14 @@
 //! Instances of types. A type that is shared is worked on once.
 ghost use Rattle.std.specs.Prelude.{◌≡◌, ◌<◌, IfOk, OnOk};
 ghost use Rattle.std.specs.List.{All};
-ghost use Rattle.ot_plain.specs.Table.{Extends};
-ghost use Rattle.ot_plain.specs.Naming.{names};
-ghost use Rattle.ot_plain.specs.Hol.{inst};
+ghost use Rattle.ot_logic.specs.Table.{Extends};
+ghost use Rattle.ot_logic.specs.Naming.{names};
+ghost use Rattle.ot_logic.specs.Hol.{inst};
 
 use crate::node::{NameId, TypeId, TypeNode};
 use crate::table::Nodes;
 use indexmap::IndexMap;
-use ot_plain::Memory;
+use ot_logic::Memory;
 use smallvec::SmallVec;
 
 impl Nodes {

@@ -1,12 +1,12 @@
 //! Function types, the type of propositions, and equations.
 ghost use Rattle.std.specs.Prelude.{◌≡◌, ◌≢◌, ℕ, [], ◌∷◌, None, IfOk, MatchOption};
-ghost use Rattle.ot_plain.specs.Table.{Extends, IsInjective};
-ghost use Rattle.ot_plain.specs.Naming.{names};
-ghost use Rattle.ot_plain.specs.Hol.{fun_ty, bool_ty, as_fun_ty, equation};
+ghost use Rattle.ot_logic.specs.Table.{Extends, IsInjective};
+ghost use Rattle.ot_logic.specs.Naming.{names};
+ghost use Rattle.ot_logic.specs.Hol.{fun_ty, bool_ty, as_fun_ty, equation};
 
 use crate::node::{NameId, TermId, TypeId, TypeNode};
 use crate::table::Nodes;
-use ot_plain::Memory;
+use ot_logic::Memory;
 
 impl Nodes {
     ghost use Rattle.ot_nodes.specs.Items.{IsType, IsTerm, HasType, HasTerm, type_at, term_at, first_items};

@@ -3,14 +3,14 @@
 ghost use Rattle.std.specs.Prelude.{◌≡◌, ◌&&◌, ◌∷◌, [], List, Some, IfOk, OnOk};
 ghost use Rattle.std.specs.List.{All};
 ghost use Rattle.std.specs.Option.{ForSome};
-ghost use Rattle.ot_plain.specs.Names.{Name};
-ghost use Rattle.ot_plain.specs.Table.{Extends};
-ghost use Rattle.ot_plain.specs.Trees.{Ty, Tm, Bound, App, Abs};
+ghost use Rattle.ot_logic.specs.Names.{Name};
+ghost use Rattle.ot_logic.specs.Table.{Extends};
+ghost use Rattle.ot_logic.specs.Trees.{Ty, Tm, Bound, App, Abs};
 
 use crate::node::{TermId, TermNode, TypeId};
 use crate::table::Nodes;
 use indexmap::IndexMap;
-use ot_plain::Memory;
+use ot_logic::Memory;
 use smallvec::SmallVec;
 use std::alloc::Global;
 

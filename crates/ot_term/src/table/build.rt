@@ -1,13 +1,14 @@
 //! How terms are made.
 ghost use Rattle.std.specs.Prelude.{◌≡◌, ◌≢◌, ℕ, ◌<◌, ◌+◌, max, Some, Err, slice_get, length, IfOk, OnErr, false};
-ghost use Rattle.ot_plain.specs.Trees.{Ty, NVar, NConst, NApp, NAbs};
-ghost use Rattle.ot_plain.specs.Hol.{fun_ty, named_type};
-ghost use Rattle.ot_plain.specs.Naming.{numbers};
+ghost use Rattle.ot_logic.specs.Trees.{Ty, NVar, NConst, NApp, NAbs};
+ghost use Rattle.ot_logic.specs.Hol.{fun_ty};
+ghost use Rattle.ot_logic.specs.NamedTerms.{named_type};
+ghost use Rattle.ot_logic.specs.Naming.{numbers};
 ghost use Rattle.ot_type.specs.TypeTable.{type_at};
 
 use crate::table::Terms;
 use crate::term::{TermFault, TermId, TermNode, VarKey};
-use ot_plain::{DEPTH_LIMIT, Memory, NameId};
+use ot_logic::{DEPTH_LIMIT, Memory, NameId};
 use ot_type::{TableFault, TypeId};
 
 impl Terms {

@@ -1,14 +1,15 @@
 //! Equations: how they are made, and how they are taken apart.
 ghost use Rattle.std.specs.Prelude.{◌≡◌, ◌≢◌, ◌↔◌, ℕ, ◌<◌, [], Some, Err, slice_get};
 ghost use Rattle.std.specs.Prelude.{length, IfOk, IfNone, IfSome, IsTrue, false};
-ghost use Rattle.ot_plain.specs.Trees.{Ty, Named, NConst};
-ghost use Rattle.ot_plain.specs.Hol.{bool_ty, named_type, depth_ty, depth_limit};
-ghost use Rattle.ot_plain.specs.Naming.{numbers};
+ghost use Rattle.ot_logic.specs.Trees.{Ty, Named, NConst};
+ghost use Rattle.ot_logic.specs.Hol.{bool_ty, depth_ty, depth_limit};
+ghost use Rattle.ot_logic.specs.NamedTerms.{named_type};
+ghost use Rattle.ot_logic.specs.Naming.{numbers};
 ghost use Rattle.ot_type.specs.TypeTable.{type_at};
 
 use crate::table::Terms;
 use crate::term::{TermFault, TermId, TermNode};
-use ot_plain::NameId;
+use ot_logic::NameId;
 use ot_type::{TableFault, TypeId, TypeNode};
 
 /// The constant `=` at a type, and the types of its application to one term and to two.

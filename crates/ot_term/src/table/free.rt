@@ -1,17 +1,18 @@
 //! The free variables of a term.
 ghost use Rattle.std.specs.Prelude.{◌≡◌, ◌↔◌, ℕ, ◌<◌, length, map, IfOk, Decides};
 ghost use Rattle.std.specs.List.{All};
-ghost use Rattle.ot_plain.specs.Hol.{IsClosed, IsFree, is_free, nameless};
-ghost use Rattle.ot_plain.specs.Lists.{AreDistinct, IsMember};
-ghost use Rattle.ot_plain.specs.Naming.{numbers};
-ghost use Rattle.ot_plain.specs.Trees.{Variable};
+ghost use Rattle.ot_logic.specs.Hol.{IsClosed, IsFree, is_free};
+ghost use Rattle.ot_logic.specs.NamedTerms.{nameless};
+ghost use Rattle.ot_logic.specs.Lists.{AreDistinct, IsMember};
+ghost use Rattle.ot_logic.specs.Naming.{numbers};
+ghost use Rattle.ot_logic.specs.Trees.{Variable};
 ghost use Rattle.ot_term.specs.Free.{key_at, var_key};
 
 use crate::table::{Terms, class_beside};
 use crate::term::{TermId, VarKey};
 use indexmap::IndexSet;
 use ot_class::Key;
-use ot_plain::{Memory, NameId};
+use ot_logic::{Memory, NameId};
 use ot_type::TypeId;
 use std::alloc::Global;
 

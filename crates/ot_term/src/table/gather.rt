@@ -1,16 +1,17 @@
 //! The type variables and the symbols of a term.
 ghost use Rattle.std.specs.Prelude.{◌≡◌, ◌<◌, ◌++◌, length, map, IfOk, OnOk};
 ghost use Rattle.std.specs.List.{All, flat_map};
-ghost use Rattle.ot_plain.specs.Hol.{nameless, symbols_tm, vars_tm};
-ghost use Rattle.ot_plain.specs.Lists.{AreDistinct, IsSameSet};
-ghost use Rattle.ot_plain.specs.Naming.{numbers};
+ghost use Rattle.ot_logic.specs.Hol.{symbols_tm, vars_tm};
+ghost use Rattle.ot_logic.specs.NamedTerms.{nameless};
+ghost use Rattle.ot_logic.specs.Lists.{AreDistinct, IsSameSet};
+ghost use Rattle.ot_logic.specs.Naming.{numbers};
 ghost use Rattle.ot_type.specs.TypeTable.{type_at};
 ghost use Rattle.ot_term.specs.Symbols.{symbol_of, constant_of, operator_of, variable_name};
 
 use crate::collect::distinct;
 use crate::table::Terms;
 use crate::term::{Symbol, SymbolKind, TermId, TermNode};
-use ot_plain::{Memory, NameId};
+use ot_logic::{Memory, NameId};
 use ot_type::{TypeId, TypeNode, Types};
 use std::alloc::Global;
 

@@ -1,13 +1,13 @@
 //! The calls on types, passed on to the table of types. The terms stay as they are.
 ghost use Rattle.std.specs.Prelude.{◌≡◌, ℕ, ◌<◌, ◌+◌, Some, Err, slice_get, length, IfOk, OnErr};
 ghost use Rattle.std.specs.List.{All};
-ghost use Rattle.ot_plain.specs.Trees.{Ty, TyOp, TyVar};
-ghost use Rattle.ot_plain.specs.Hol.{depth_ty, depth_limit, fun_ty, bool_ty, inst};
-ghost use Rattle.ot_plain.specs.Naming.{numbers};
+ghost use Rattle.ot_logic.specs.Trees.{Ty, TyOp, TyVar};
+ghost use Rattle.ot_logic.specs.Hol.{depth_ty, depth_limit, fun_ty, bool_ty, inst};
+ghost use Rattle.ot_logic.specs.Naming.{numbers};
 ghost use Rattle.ot_type.specs.TypeTable.{type_at, types_at, images};
 
 use crate::table::Terms;
-use ot_plain::{Memory, NameId};
+use ot_logic::{Memory, NameId};
 use ot_type::{TableFault, TypeId, TypeSubst};
 
 impl Terms {

@@ -8,7 +8,7 @@ ghost use Rattle.ot_type.specs.Subtypes.{IsSubtype};
 use crate::collect::add_all;
 use crate::table::Terms;
 use crate::term::{TermId, TermNode};
-use ot_plain::Memory;
+use ot_logic::Memory;
 use ot_type::{TypeId, TypeNode};
 use std::alloc::Global;
 use std::collections::BTreeSet;

@@ -1,13 +1,13 @@
 ghost use Rattle.std.specs.Prelude.{◌≡◌, ◌<◌, ◌++◌, ◌∷◌, [], ◌⊎◌, Some, slice_get};
 ghost use Rattle.std.specs.Prelude.{slice_index_or, length, map, IfOk, OnOk, OnErr};
 ghost use Rattle.std.specs.List.{All};
-ghost use Rattle.ot_plain.specs.Table.{IsInjective};
+ghost use Rattle.ot_logic.specs.Table.{IsInjective};
 ghost use Rattle.ot_trace.specs.Origins.{Make, Define, operand, symbols};
 
 use crate::operands::Operands;
 use crate::step::Step;
 use crate::trace::{StepId, Trace};
-use ot_plain::{Cmd, Memory};
+use ot_logic::{Cmd, Memory};
 
 impl Trace {
     ghost use Rattle.ot_trace.specs.Trace.{origin_at, origins_at};

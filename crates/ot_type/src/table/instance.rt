@@ -1,10 +1,10 @@
 ghost use Rattle.std.specs.Prelude.{◌≡◌, ◌<◌, ◌≤◌, ℕ, List, Some, Err, slice_get, length, IfOk, OnOk};
 ghost use Rattle.std.specs.List.{All, AllZip};
-ghost use Rattle.ot_plain.specs.Table.{Extends};
-ghost use Rattle.ot_plain.specs.Hol.{depth_ty, depth_all, depth_limit, inst, inst_all, type_at as image_of};
-ghost use Rattle.ot_plain.specs.Naming.{numbers};
-ghost use Rattle.ot_plain.specs.Bounds.{names_in};
-ghost use Rattle.ot_plain.specs.Trees.{Ty};
+ghost use Rattle.ot_logic.specs.Table.{Extends};
+ghost use Rattle.ot_logic.specs.Hol.{depth_ty, depth_all, depth_limit, inst, inst_all, type_at as image_of};
+ghost use Rattle.ot_logic.specs.Naming.{numbers};
+ghost use Rattle.ot_logic.specs.Bounds.{names_in};
+ghost use Rattle.ot_logic.specs.Trees.{Ty};
 ghost use Rattle.ot_type.specs.TypeTable.{type_at};
 ghost use Rattle.ot_type.specs.Instance.{IsMemo};
 
@@ -13,7 +13,7 @@ use crate::node::TypeNode;
 use crate::subst::TypeSubst;
 use crate::table::{TypeId, Types};
 use indexmap::IndexMap;
-use ot_plain::Memory;
+use ot_logic::Memory;
 use smallvec::SmallVec;
 
 /// A type that is nested deeper than this, or has an operator with more arguments than this, is worked on once in a call.

@@ -1,11 +1,11 @@
 ghost use Rattle.std.specs.Prelude.{◌<◌, ◌++◌, length, IfOk, OnOk};
-ghost use Rattle.ot_plain.specs.Lists.{AreDistinct, IsSameSet};
-ghost use Rattle.ot_plain.specs.Hol.{vars_ty};
-ghost use Rattle.ot_plain.specs.Naming.{numbers};
+ghost use Rattle.ot_logic.specs.Lists.{AreDistinct, IsSameSet};
+ghost use Rattle.ot_logic.specs.Hol.{vars_ty};
+ghost use Rattle.ot_logic.specs.Naming.{numbers};
 
 use crate::node::TypeNode;
 use crate::table::{TypeId, Types};
-use ot_plain::{Memory, NameId};
+use ot_logic::{Memory, NameId};
 use std::alloc::Global;
 use std::collections::BTreeSet;
 

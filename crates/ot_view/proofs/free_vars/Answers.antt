@@ -1,11 +1,12 @@
 use Rattle.std.specs.Prelude.{Result, Ok, Err, IfOk, ◌↔◌}
 use Rattle.std.specs.List.{All}
 use Rattle.std.proofs.Common.{ℕ, ◌<◌, List, length, map}
-use Rattle.ot_plain.specs.Lists.{IsMember}
-use Rattle.ot_plain.specs.Names.{Name}
-use Rattle.ot_plain.specs.Naming.{names, numbers, IsNameTable}
-use Rattle.ot_plain.specs.Trees.{Variable}
-use Rattle.ot_plain.specs.Hol.{IsFree, IsFreeIn, nameless}
+use Rattle.ot_logic.specs.Lists.{IsMember}
+use Rattle.ot_logic.specs.Names.{Name}
+use Rattle.ot_logic.specs.Naming.{names, numbers, IsNameTable}
+use Rattle.ot_logic.specs.Trees.{Variable}
+use Rattle.ot_logic.specs.Hol.{IsFree}
+use Rattle.ot_logic.specs.NamedTerms.{IsFreeIn, nameless}
 use Rattle.ot_term.specs.Term.{TermTable}
 use Rattle.ot_term.specs.TermTable.{term_at, variable_of}
 use Rattle.ot_term.specs.declared.term.VarKey.{VarKey}

@@ -1,6 +1,6 @@
 use Rattle.std.specs.List.{list_all}
 use Rattle.std.proofs.Common.{◌≡◌, true, take}
-use Rattle.ot_plain.specs.Naming.{numbers}
+use Rattle.ot_logic.specs.Naming.{numbers}
 use Rattle.ot_laws.specs.Conditions.{is_closed}
 use Rattle.ot_define.specs.Answers.{tm_at}
 use Rattle.ot_define.proofs.lists.check_all_closed.Given as goal

@@ -2,9 +2,9 @@ use Rattle.std.specs.List.{list_all}
 use Rattle.std.proofs.Common.{ℕ, Err, map, subst, sym, ap, arith, rules, ◌∙◌}
 use Rattle.std.proofs.lemmas.List.{take_all}
 use Rattle.std.proofs.lemmas.List.Folds.{list_all-map}
-use Rattle.ot_plain.specs.Answers.{unless}
-use Rattle.ot_plain.specs.Faults.{TypeVarEscapes}
-use Rattle.ot_plain.specs.Naming.{numbers}
+use Rattle.ot_logic.specs.Answers.{unless}
+use Rattle.ot_logic.specs.Faults.{TypeVarEscapes}
+use Rattle.ot_logic.specs.Naming.{numbers}
 use Rattle.ot_laws.specs.Conditions.{keeps_type_vars}
 use Rattle.ot_define.specs.Answers.{Checks, tm_at}
 use Rattle.ot_define.proofs.Refusing.{checks-one}

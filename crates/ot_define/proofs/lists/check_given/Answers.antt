@@ -1,8 +1,8 @@
 use Rattle.std.specs.List.{list_all}
 use Rattle.std.proofs.Common.{ℕ, ap, ◌∙◌, Err, ◌&&◌, map, subst, sym, rules}
-use Rattle.ot_plain.specs.Answers.{◌>>=◌, unless}
-use Rattle.ot_plain.specs.Faults.{Fault, NotClosed, TypeVarEscapes}
-use Rattle.ot_plain.specs.Naming.{numbers}
+use Rattle.ot_logic.specs.Answers.{◌>>=◌, unless}
+use Rattle.ot_logic.specs.Faults.{Fault, NotClosed, TypeVarEscapes}
+use Rattle.ot_logic.specs.Naming.{numbers}
 use Rattle.ot_term.specs.TermTable.{variable_of}
 use Rattle.ot_laws.specs.Conditions.{is_closed, is_closed_but, keeps_type_vars}
 use Rattle.ot_define.specs.Answers.{Checks, checked_given, tm_at}

@@ -1,8 +1,8 @@
 use Rattle.std.specs.Prelude.{◌==◌}
 use Rattle.std.proofs.Common.{◌&&◌, length, map, nat_eq, refl}
-use Rattle.ot_plain.specs.Faults.{BadDefinitionList}
-use Rattle.ot_plain.specs.Hol.{same_var}
-use Rattle.ot_plain.specs.Naming.{numbers}
+use Rattle.ot_logic.specs.Faults.{BadDefinitionList}
+use Rattle.ot_logic.specs.Hol.{same_var}
+use Rattle.ot_logic.specs.Naming.{numbers}
 use Rattle.ot_term.specs.TermTable.{variable_of}
 use Rattle.ot_laws.specs.Conditions.{are_distinct}
 use Rattle.ot_define.specs.declared.fault.DefineFault.TheVariants as code

@@ -1,7 +1,8 @@
 use Rattle.std.proofs.Common.{length, subst, sym, ap, ◌∙◌}
-use Rattle.ot_plain.specs.Trees.{Named, Free}
-use Rattle.ot_plain.specs.Hol.{same_tm, nameless}
-use Rattle.ot_plain.specs.Naming.{numbers}
+use Rattle.ot_logic.specs.Trees.{Named, Free}
+use Rattle.ot_logic.specs.Hol.{same_tm}
+use Rattle.ot_logic.specs.NamedTerms.{nameless}
+use Rattle.ot_logic.specs.Naming.{numbers}
 use Rattle.ot_term.specs.declared.term.TermNode.TheVariants.{Var}
 use Rattle.ot_term.specs.TermTable.{variable_of, AreBelow}
 use Rattle.ot_term.proofs.Equations.{term_is}

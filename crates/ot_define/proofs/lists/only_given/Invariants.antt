@@ -1,7 +1,7 @@
 use Rattle.std.specs.Prelude.{IfSome}
 use Rattle.std.specs.Option.{option_map}
 use Rattle.std.proofs.Common.{◌≡◌, ◌<◌, length, map, take}
-use Rattle.ot_plain.specs.Naming.{numbers}
+use Rattle.ot_logic.specs.Naming.{numbers}
 use Rattle.ot_term.specs.TermTable.{variable_of}
 use Rattle.ot_laws.specs.Conditions.{given}
 use Rattle.ot_define.specs.Answers.{tm_at, listed}

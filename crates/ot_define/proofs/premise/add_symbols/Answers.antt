@@ -1,9 +1,9 @@
 use Rattle.std.proofs.Common.{◌++◌, List, map, fold, subst, sym, ap, ◌∙◌}
 use Rattle.indexmap.specs.IndexSet.{insert_key}
 use Rattle.indexmap.proofs.MapLemmas.{OnOk-map}
-use Rattle.ot_plain.specs.Hol.{symbols_tm}
-use Rattle.ot_plain.specs.Lists.{IsSameSet}
-use Rattle.ot_plain.specs.Naming.{numbers}
+use Rattle.ot_logic.specs.Hol.{symbols_tm}
+use Rattle.ot_logic.specs.Lists.{IsSameSet}
+use Rattle.ot_logic.specs.Naming.{numbers}
 use Rattle.ot_term.specs.declared.term.Symbol.{Symbol}
 use Rattle.ot_term.specs.Symbols.{symbol_of}
 use Rattle.ot_term.proofs.Distinct.{symbol_eq}

@@ -1,7 +1,7 @@
 use Rattle.std.specs.List.{list_all, list_any}
 use Rattle.std.proofs.Common.{map, refl, ap, ◌∙◌}
-use Rattle.ot_plain.specs.Faults.{NotClosed}
-use Rattle.ot_plain.specs.Naming.{numbers}
+use Rattle.ot_logic.specs.Faults.{NotClosed}
+use Rattle.ot_logic.specs.Naming.{numbers}
 use Rattle.ot_term.specs.declared.term.VarKey.{VarKey}
 use Rattle.ot_term.specs.TermTable.{variable_of}
 use Rattle.ot_term.proofs.Distinct.{key_eq, key-is}

@@ -1,10 +1,10 @@
 use Rattle.std.specs.List.{list_all, list_any}
 use Rattle.std.proofs.Common.{ℕ, List, nat_eq, subst, refl, ◌∙◌}
-use Rattle.ot_plain.specs.Faults.{TypeVarEscapes}
-use Rattle.ot_plain.specs.Hol.{vars_ty}
-use Rattle.ot_plain.specs.Lists.{IsSameSet}
-use Rattle.ot_plain.specs.Trees.{Ty}
-use Rattle.ot_plain.specs.Naming.{numbers}
+use Rattle.ot_logic.specs.Faults.{TypeVarEscapes}
+use Rattle.ot_logic.specs.Hol.{vars_ty}
+use Rattle.ot_logic.specs.Lists.{IsSameSet}
+use Rattle.ot_logic.specs.Trees.{Ty}
+use Rattle.ot_logic.specs.Naming.{numbers}
 use Rattle.ot_type.specs.TypeTable.{type_at}
 use Rattle.ot_term.specs.TermTable.{term_at}
 use Rattle.ot_laws.specs.Conditions.{keeps_type_vars}

@@ -1,8 +1,8 @@
 use Rattle.std.proofs.Common.{◌++◌, List, map, subst, arith}
 use Rattle.std.proofs.lemmas.List.{take_all}
-use Rattle.ot_plain.specs.Hol.{symbols_tm, symbols_all}
-use Rattle.ot_plain.specs.Lists.{IsSameSet}
-use Rattle.ot_plain.specs.Naming.{numbers}
+use Rattle.ot_logic.specs.Hol.{symbols_tm, symbols_all}
+use Rattle.ot_logic.specs.Lists.{IsSameSet}
+use Rattle.ot_logic.specs.Naming.{numbers}
 use Rattle.ot_laws.proofs.Sets.{same_set-then, same_set-append, same_set-self}
 use Rattle.ot_term.specs.Symbols.{symbol_of}
 use Rattle.ot_define.specs.Answers.{tm_at}

@@ -1,7 +1,7 @@
 use Rattle.std.proofs.Common.{map, take}
-use Rattle.ot_plain.specs.Hol.{symbols_all}
-use Rattle.ot_plain.specs.Lists.{IsSameSet}
-use Rattle.ot_plain.specs.Naming.{numbers}
+use Rattle.ot_logic.specs.Hol.{symbols_all}
+use Rattle.ot_logic.specs.Lists.{IsSameSet}
+use Rattle.ot_logic.specs.Naming.{numbers}
 use Rattle.ot_term.specs.Symbols.{symbol_of}
 use Rattle.ot_define.specs.Answers.{tm_at}
 use Rattle.ot_define.proofs.premise.symbols_in.Given as goal

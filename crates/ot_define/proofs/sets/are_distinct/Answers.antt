@@ -1,5 +1,5 @@
 use Rattle.std.proofs.Common.{nat_eq, length, ap, ◌∙◌}
-use Rattle.ot_plain.specs.Naming.{numbers}
+use Rattle.ot_logic.specs.Naming.{numbers}
 use Rattle.ot_laws.proofs.Hashed.{distinct-count}
 use Rattle.ot_define.proofs.sets.are_distinct.Goals as goal
 

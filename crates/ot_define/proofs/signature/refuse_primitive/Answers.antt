@@ -1,8 +1,8 @@
 use Rattle.std.proofs.Common.{Err, sym, ap, ◌∙◌}
 use Rattle.std.proofs.lemmas.Option.{same_Some}
-use Rattle.ot_plain.specs.Faults.{Primitive}
-use Rattle.ot_plain.specs.Hol.{primitives}
-use Rattle.ot_plain.specs.Naming.{numbers}
+use Rattle.ot_logic.specs.Faults.{Primitive}
+use Rattle.ot_logic.specs.Hol.{primitives}
+use Rattle.ot_logic.specs.Naming.{numbers}
 use Rattle.ot_term.specs.Symbols.{symbol_of}
 use Rattle.ot_laws.specs.Conditions.{is_among}
 use Rattle.ot_define.proofs.Refusing.{first-some, first-none}

@@ -1,9 +1,9 @@
 use Rattle.std.specs.List.{list_all, list_any}
 use Rattle.std.proofs.Common.{◌&&◌, ℕ, nat_eq, refl, ap, ◌∙◌}
 use Rattle.std.proofs.lemmas.Bool.Decides.{Decides-eqb}
-use Rattle.ot_plain.specs.Faults.{BadTypeVars}
-use Rattle.ot_plain.specs.Hol.{vars_tm}
-use Rattle.ot_plain.specs.Naming.{numbers}
+use Rattle.ot_logic.specs.Faults.{BadTypeVars}
+use Rattle.ot_logic.specs.Hol.{vars_tm}
+use Rattle.ot_logic.specs.Naming.{numbers}
 use Rattle.ot_laws.proofs.Sets.{same_set-self}
 use Rattle.ot_laws.specs.Conditions.{are_distinct, are_names_of}
 use Rattle.ot_define.specs.Answers.{tm_at}

@@ -1,5 +1,5 @@
 use Rattle.ot_text.proofs.Putting.{same-text}
-use Rattle.ot_plain.proofs.NameLemmas.{has-components}
+use Rattle.ot_logic.proofs.NameLemmas.{has-components}
 use Rattle.ot_find.proofs.Indented.{name-spelled}
 use Rattle.ot_find.proofs.lines.put_name.Goals as goal
 

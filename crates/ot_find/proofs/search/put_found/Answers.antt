@@ -1,6 +1,6 @@
 use Rattle.std.specs.Prelude.{ℕ}
 use Rattle.std.proofs.Common.{map, ap}
-use Rattle.ot_plain.specs.Names.{Name}
+use Rattle.ot_logic.specs.Names.{Name}
 use Rattle.ot_kernel.specs.State.{type_at, term_at}
 use Rattle.ot_text.specs.Texts.{ascending}
 use Rattle.ot_text.specs.Sections.{indented_text}

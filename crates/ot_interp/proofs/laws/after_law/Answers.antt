@@ -1,6 +1,6 @@
 use Rattle.std.proofs.lemmas.Bool.Decides.{Decides-eqb}
-use Rattle.ot_plain.specs.Names.{same_name-Decides}
-use Rattle.ot_plain.specs.Naming.{names, numbers}
+use Rattle.ot_logic.specs.Names.{same_name-Decides}
+use Rattle.ot_logic.specs.Naming.{names, numbers}
 use Rattle.ot_interp.proofs.Composed.{inner_then_outer}
 use Rattle.ot_interp.proofs.laws.after_law.Goals as goal
 

@@ -1,7 +1,7 @@
 use Rattle.std.proofs.Common.{◌≡◌, nat_eq, ◌++◌}
 use Rattle.std.specs.List.{IsDistinct}
 use Rattle.std.specs.Map.{keys_of}
-use Rattle.ot_plain.specs.Naming.{numbers}
+use Rattle.ot_logic.specs.Naming.{numbers}
 use Rattle.ot_interp.specs.Interpretation.{after_pairs}
 use Rattle.ot_interp.proofs.Building.{missing}
 use Rattle.ot_interp.proofs.pairs.after.Given as goal

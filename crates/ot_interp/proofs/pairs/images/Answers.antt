@@ -1,4 +1,4 @@
-use Rattle.ot_plain.specs.Naming.{numbers}
+use Rattle.ot_logic.specs.Naming.{numbers}
 use Rattle.ot_interp.specs.Interpretation.{renamed}
 use Rattle.ot_interp.proofs.Building.{next_is_new}
 use Rattle.ot_interp.proofs.pairs.images.Goals as goal

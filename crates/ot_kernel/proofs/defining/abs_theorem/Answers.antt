@@ -1,8 +1,8 @@
 use Rattle.std.proofs.Common.{subst, Result}
 use Rattle.std.proofs.lemmas.Result.{err_from_is_err_and}
 use Rattle.std.proofs.Common.{ℕ}
-use Rattle.ot_plain.specs.Faults.{Fault}
-use Rattle.ot_plain.specs.Trees.{Sequent}
+use Rattle.ot_logic.specs.Faults.{Fault}
+use Rattle.ot_logic.specs.Trees.{Sequent}
 use Rattle.ot_kernel.specs.Numbered.{Derives}
 use Rattle.ot_kernel.proofs.Equating.{grown_then}
 use Rattle.ot_kernel.proofs.RoundTrips.{trip_refused, sides_typed, trip_rule}

@@ -1,6 +1,6 @@
 use Rattle.std.proofs.Common.{[], ◌∙◌}
 use Rattle.std.proofs.lemmas.Result.{err_from_is_err_and}
-use Rattle.ot_plain.specs.Naming.{numbers}
+use Rattle.ot_logic.specs.Naming.{numbers}
 use Rattle.ot_laws.proofs.Tests.{tells_numbers}
 use Rattle.ot_laws.proofs.Typing.{type-nameless}
 use Rattle.ot_type.specs.TypeTable.{type_at}

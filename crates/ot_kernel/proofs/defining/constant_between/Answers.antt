@@ -1,5 +1,5 @@
-use Rattle.ot_plain.specs.Hol.{fun_ty}
-use Rattle.ot_plain.specs.Naming.{numbers}
+use Rattle.ot_logic.specs.Hol.{fun_ty}
+use Rattle.ot_logic.specs.Naming.{numbers}
 use Rattle.ot_type.specs.TypeTable.{type_at}
 use Rattle.ot_kernel.proofs.NewTypes.{constant_made}
 use Rattle.ot_kernel.proofs.defining.constant_between.Goals as goal

@@ -1,7 +1,7 @@
 use Rattle.std.specs.Prelude.{Err}
 use Rattle.std.proofs.Common.{◌≡◌, ap, ◌∙◌}
-use Rattle.ot_plain.specs.Hol.{tys_of_vars}
-use Rattle.ot_plain.specs.Naming.{numbers}
+use Rattle.ot_logic.specs.Hol.{tys_of_vars}
+use Rattle.ot_logic.specs.Naming.{numbers}
 use Rattle.ot_type.specs.TypeTable.{types_at}
 use Rattle.ot_kernel.proofs.NewTypes.{shallow_operator, type_number, operator_refused}
 use Rattle.ot_kernel.proofs.defining.new_type.Goals as goal

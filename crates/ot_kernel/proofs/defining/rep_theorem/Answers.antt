@@ -1,7 +1,7 @@
 use Rattle.std.proofs.Common.{subst, Result, ℕ}
 use Rattle.std.proofs.lemmas.Result.{err_from_is_err_and}
-use Rattle.ot_plain.specs.Faults.{Fault}
-use Rattle.ot_plain.specs.Trees.{Free, App, Sequent}
+use Rattle.ot_logic.specs.Faults.{Fault}
+use Rattle.ot_logic.specs.Trees.{Free, App, Sequent}
 use Rattle.ot_term.specs.TermTable.{variable_of}
 use Rattle.ot_kernel.specs.Numbered.{tm_at, Derives}
 use Rattle.ot_kernel.proofs.Equating.{grown_then, grown_more}

@@ -1,8 +1,8 @@
 use Rattle.std.proofs.Common.{◌≡◌, ℕ, ◌∷◌, ap, arith}
 use Rattle.std.proofs.lemmas.Result.{err_from_is_err_and}
-use Rattle.ot_plain.specs.Trees.{Ty, TyOp, Tm}
-use Rattle.ot_plain.specs.Hol.{tys_of_vars}
-use Rattle.ot_plain.specs.Naming.{numbers}
+use Rattle.ot_logic.specs.Trees.{Ty, TyOp, Tm}
+use Rattle.ot_logic.specs.Hol.{tys_of_vars}
+use Rattle.ot_logic.specs.Naming.{numbers}
 use Rattle.ot_type.specs.TypeTable.{type_at}
 use Rattle.ot_term.specs.Term.{TermTable}
 use Rattle.ot_term.specs.TermTable.{IsGrownTo}

@@ -1,6 +1,6 @@
 use Rattle.std.proofs.Common.{◌≤◌, ◌++◌, map, length, sym, ap, ◌∙◌, arith}
 use Rattle.std.proofs.lemmas.List.{append-nil, drop_all}
-use Rattle.ot_plain.specs.Trees.{TyVar}
+use Rattle.ot_logic.specs.Trees.{TyVar}
 use Rattle.ot_type.specs.TypeTable.{type_at}
 use Rattle.ot_term.proofs.Growing.{grown_further}
 use Rattle.ot_kernel.specs.Proved.{bound_of_names}

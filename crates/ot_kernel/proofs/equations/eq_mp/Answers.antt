@@ -1,6 +1,6 @@
 use Rattle.std.proofs.Common.{Ok, refl, sym, ◌∙◌}
-use Rattle.ot_plain.specs.Faults.{NotAlphaEqual}
-use Rattle.ot_plain.specs.Naming.{numbers}
+use Rattle.ot_logic.specs.Faults.{NotAlphaEqual}
+use Rattle.ot_logic.specs.Naming.{numbers}
 use Rattle.ot_kernel.specs.declared.fault.RuleFault.TheVariants as rules
 use Rattle.ot_kernel.specs.Numbered.{tm_at, numbered_sequent}
 use Rattle.ot_kernel.proofs.Comparing.{tested}

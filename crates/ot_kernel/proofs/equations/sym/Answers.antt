@@ -1,7 +1,7 @@
 use Rattle.std.specs.List.{All}
 use Rattle.std.proofs.Common.{◌<◌, length, sym, ap, subst, ◌∙◌}
 use Rattle.std.proofs.lemmas.Result.{err_from_is_err_and}
-use Rattle.ot_plain.specs.Naming.{numbers}
+use Rattle.ot_logic.specs.Naming.{numbers}
 use Rattle.ot_kernel.specs.Numbered.{tm_at, tms_at, numbered_sequent}
 use Rattle.ot_kernel.proofs.EquationRules.{sym-is}
 use Rattle.ot_kernel.proofs.Equating.{equated_derives, equated_refused}

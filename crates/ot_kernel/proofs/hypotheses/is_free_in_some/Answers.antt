@@ -1,7 +1,7 @@
 use Rattle.std.specs.Prelude.{◌||◌}
 use Rattle.std.proofs.Common.{◌+◌, drop, sym, ap, ◌∙◌}
-use Rattle.ot_plain.specs.Hol.{is_free_in_some}
-use Rattle.ot_plain.specs.Naming.{numbers}
+use Rattle.ot_logic.specs.Hol.{is_free_in_some}
+use Rattle.ot_logic.specs.Naming.{numbers}
 use Rattle.ot_term.specs.TermTable.{variable_of}
 use Rattle.ot_kernel.specs.Numbered.{tms_at}
 use Rattle.ot_kernel.proofs.Frees.{free_next}

@@ -1,6 +1,6 @@
 use Rattle.std.proofs.Common.{◌≡◌, drop}
-use Rattle.ot_plain.specs.Hol.{is_free_in_some}
-use Rattle.ot_plain.specs.Naming.{numbers}
+use Rattle.ot_logic.specs.Hol.{is_free_in_some}
+use Rattle.ot_logic.specs.Naming.{numbers}
 use Rattle.ot_term.specs.TermTable.{variable_of}
 use Rattle.ot_kernel.specs.Numbered.{tms_at}
 use Rattle.ot_kernel.proofs.hypotheses.is_free_in_some.Given as goal

@@ -1,7 +1,7 @@
 use Rattle.std.specs.List.{All}
 use Rattle.std.proofs.Common.{◌≡◌, ◌<◌, ◌++◌, length, drop}
-use Rattle.ot_plain.specs.Hol.{minus}
-use Rattle.ot_plain.specs.Naming.{numbers}
+use Rattle.ot_logic.specs.Hol.{minus}
+use Rattle.ot_logic.specs.Naming.{numbers}
 use Rattle.ot_kernel.specs.Numbered.{tm_at, tms_at}
 use Rattle.ot_kernel.proofs.hypotheses.minus.Given as goal
 

@@ -1,8 +1,8 @@
 use Rattle.std.specs.Prelude.{IfSome}
 use Rattle.std.proofs.Common.{◌<◌, ◌+◌, ◌-◌, List, ℕ, length, take, drop, sym, subst, arith}
-use Rattle.ot_plain.specs.Trees.{Tm}
-use Rattle.ot_plain.specs.Hol.{is_in}
-use Rattle.ot_plain.specs.Naming.{numbers}
+use Rattle.ot_logic.specs.Trees.{Tm}
+use Rattle.ot_logic.specs.Hol.{is_in}
+use Rattle.ot_logic.specs.Naming.{numbers}
 use Rattle.ot_kernel.specs.Numbered.{tm_at, tms_at}
 use Rattle.ot_kernel.specs.Classes.{AreClassesOf}
 use Rattle.ot_kernel.proofs.ByClass.{behind, classes-back, once-back, put-inside}

@@ -1,8 +1,8 @@
 use Rattle.std.specs.Prelude.{IfSome}
 use Rattle.std.specs.List.{All}
 use Rattle.std.proofs.Common.{◌≡◌, ◌<◌, ◌++◌, length, drop}
-use Rattle.ot_plain.specs.Hol.{lacking, union}
-use Rattle.ot_plain.specs.Naming.{numbers}
+use Rattle.ot_logic.specs.Hol.{lacking, union}
+use Rattle.ot_logic.specs.Naming.{numbers}
 use Rattle.ot_kernel.specs.Numbered.{tms_at}
 use Rattle.ot_kernel.specs.Classes.{AreClassesOf}
 use Rattle.ot_kernel.proofs.hypotheses.union.Given as goal

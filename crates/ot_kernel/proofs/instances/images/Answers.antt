@@ -1,7 +1,7 @@
 use Rattle.std.proofs.Common.{ℕ, Err, ap}
-use Rattle.ot_plain.specs.Trees.{Tm}
-use Rattle.ot_plain.specs.Naming.{numbers}
-use Rattle.ot_plain.specs.Rules.{subst_rule}
+use Rattle.ot_logic.specs.Trees.{Tm}
+use Rattle.ot_logic.specs.Naming.{numbers}
+use Rattle.ot_logic.specs.Rules.{subst_rule}
 use Rattle.ot_subst.specs.Substitution.{type_part, variable_part}
 use Rattle.ot_kernel.specs.Answers.{RefusesRule}
 use Rattle.ot_kernel.specs.Numbered.{tms_at}

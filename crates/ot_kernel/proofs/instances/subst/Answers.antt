@@ -1,6 +1,6 @@
 use Rattle.std.proofs.Common.{Err, ap}
-use Rattle.ot_plain.specs.Naming.{numbers}
-use Rattle.ot_plain.specs.Rules.{subst_rule}
+use Rattle.ot_logic.specs.Naming.{numbers}
+use Rattle.ot_logic.specs.Rules.{subst_rule}
 use Rattle.ot_subst.specs.Substitution.{type_part, variable_part}
 use Rattle.ot_kernel.specs.Numbered.{tm_at, numbered_sequent}
 use Rattle.ot_kernel.specs.Refusals.{of_subst}

@@ -1,6 +1,6 @@
 use Rattle.std.proofs.Common.{◌≡◌, drop}
-use Rattle.ot_plain.specs.Hol.{is_in}
-use Rattle.ot_plain.specs.Naming.{numbers}
+use Rattle.ot_logic.specs.Hol.{is_in}
+use Rattle.ot_logic.specs.Naming.{numbers}
 use Rattle.ot_kernel.specs.Numbered.{tm_at, tms_at}
 use Rattle.ot_kernel.proofs.membership.has_term.Given as goal
 

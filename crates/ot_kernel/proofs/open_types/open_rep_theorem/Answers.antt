@@ -1,6 +1,6 @@
 use Rattle.std.proofs.Common.{sym}
 use Rattle.std.proofs.lemmas.Result.{err_from_is_err_and}
-use Rattle.ot_plain.specs.Trees.{Free, App}
+use Rattle.ot_logic.specs.Trees.{Free, App}
 use Rattle.ot_term.specs.TermTable.{variable_of}
 use Rattle.ot_kernel.specs.Numbered.{tm_at}
 use Rattle.ot_kernel.proofs.Equating.{grown_then, grown_more}

@@ -1,8 +1,8 @@
 use Rattle.std.proofs.Common.{List, ℕ, ap, sym, subst, ◌∙◌}
 use Rattle.std.specs.List.{list_all}
-use Rattle.ot_plain.specs.Hol.{is_shallow_sequent}
-use Rattle.ot_plain.specs.Naming.{numbers}
-use Rattle.ot_plain.specs.Trees.{Tm, Sequent}
+use Rattle.ot_logic.specs.Hol.{is_shallow_sequent}
+use Rattle.ot_logic.specs.Naming.{numbers}
+use Rattle.ot_logic.specs.Trees.{Tm, Sequent}
 use Rattle.ot_kernel.specs.Proved.{DerivesOpen}
 use Rattle.ot_kernel.proofs.Premises.{theorems_from, open_from, deepest_from}
 use Rattle.ot_kernel.proofs.open_types.operator_open.Goals as goal

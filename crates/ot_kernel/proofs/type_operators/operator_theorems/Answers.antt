@@ -1,5 +1,5 @@
 use Rattle.std.proofs.Common.{List, ℕ, sym, subst}
-use Rattle.ot_plain.specs.Trees.{Sequent}
+use Rattle.ot_logic.specs.Trees.{Sequent}
 use Rattle.ot_kernel.specs.Proved.{DerivesBoth}
 use Rattle.ot_kernel.proofs.Premises.{theorems_from}
 use Rattle.ot_kernel.proofs.type_operators.operator_theorems.Goals as goal

@@ -1,6 +1,6 @@
 use Rattle.std.proofs.Common.{◌≡◌, List, ℕ, sym, ap, ◌∙◌}
-use Rattle.ot_plain.specs.Hol.{same_tm, all_in}
-use Rattle.ot_plain.specs.Naming.{numbers}
+use Rattle.ot_logic.specs.Hol.{same_tm, all_in}
+use Rattle.ot_logic.specs.Naming.{numbers}
 use Rattle.ot_kernel.specs.Numbered.{tm_at, tms_at}
 use Rattle.ot_kernel.proofs.Comparing.{tested, other_conclusion, same_conclusion}
 use Rattle.ot_kernel.proofs.within.is_within.Goals as goal

@@ -7,7 +7,7 @@ use Rattle.std.specs.Str.{bytes_eq}
 use Rattle.std.proofs.lemmas.List.{drop_all, get_or_default}
 use Rattle.std.proofs.lemmas.List.Elements.{All-nil}
 use Rattle.std.proofs.lemmas.Result.{err_from_is_err_and}
-use Rattle.ot_plain.specs.Naming.{IsNameTable}
+use Rattle.ot_logic.specs.Naming.{IsNameTable}
 use Rattle.ot_io.proofs.Keeping.{KeepsFiles-then}
 use Rattle.ot_interp.specs.Interpretation.{map_interpretation}
 use Rattle.ot_kernel.specs.State.{name_at}

@@ -1,5 +1,5 @@
 use Rattle.std.proofs.Common.{◌∙◌, ◌<◌, length, sym, ap, subst, arith}
-use Rattle.ot_plain.specs.Naming.{IsNameTable}
+use Rattle.ot_logic.specs.Naming.{IsNameTable}
 use Rattle.ot_machine.proofs.Kept.{grows-on}
 use Rattle.ot_theory.specs.Interpretations.{parts_value}
 use Rattle.ot_link.proofs.Ending.{on-ok, on-any}

@@ -1,5 +1,5 @@
-use Rattle.ot_plain.specs.Naming.{names}
-use Rattle.ot_plain.specs.Hol.{depth_tm}
+use Rattle.ot_logic.specs.Naming.{names}
+use Rattle.ot_logic.specs.Hol.{depth_tm}
 use Rattle.ot_nodes.specs.Items.{term_at}
 use Rattle.ot_listing.proofs.terms.+put_term.Given as goal
 

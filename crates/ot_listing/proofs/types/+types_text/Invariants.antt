@@ -1,6 +1,6 @@
 use Rattle.std.proofs.Common.{◌+◌, ◌*◌}
-use Rattle.ot_plain.specs.Naming.{names}
-use Rattle.ot_plain.specs.Hol.{depth_ty, depth_all}
+use Rattle.ot_logic.specs.Naming.{names}
+use Rattle.ot_logic.specs.Hol.{depth_ty, depth_all}
 use Rattle.ot_nodes.specs.Items.{type_at, types_at}
 use Rattle.ot_text.specs.Texts.{spaced_text}
 use Rattle.ot_text.specs.Pages.{printed}

@@ -1,7 +1,7 @@
 use Rattle.std.proofs.Common.{◌≡◌, ◌∙◌, ◌<◌, ap, sym, subst, length, map}
 use Rattle.std.specs.List.{All}
-use Rattle.ot_plain.specs.Lists.{IsMember, IsPart}
-use Rattle.ot_plain.specs.Naming.{IsNameTable}
+use Rattle.ot_logic.specs.Lists.{IsMember, IsPart}
+use Rattle.ot_logic.specs.Naming.{IsNameTable}
 use Rattle.ot_trace.specs.Trace.{IsStepTable, origin_at}
 use Rattle.ot_written.specs.Needed.{needed_definitions}
 use Rattle.ot_written.specs.Written.{roots_of}
@@ -14,7 +14,7 @@ use Rattle.ot_log.specs.Keeping.{IsDefinable, IsNumbered}
 use Rattle.ot_log.specs.Logs.{Writes, roots_in}
 use Rattle.ot_log.proofs.Whole.{lawful-definable, lawful-proofs, roots-inside, log-is, checked}
 use Rattle.ot_log.proofs.writing.write_log.Goals as goal
-use Rattle.ot_plain.proofs.Members.{All-at_member, All-from_members}
+use Rattle.ot_logic.proofs.Members.{All-at_member, All-from_members}
 
 pub needed_steps-requires-clause-exports : goal.needed_steps-requires-clause-exports
 needed_steps-requires-clause-exports c =

@@ -1,4 +1,4 @@
-use Rattle.ot_plain.specs.Names.{Name}
+use Rattle.ot_logic.specs.Names.{Name}
 use Rattle.ot_machine.specs.Writable.{IsWritable}
 use Rattle.ot_machine.proofs.NamedAll.{all-named}
 use Rattle.ot_machine.proofs.WritableNames.{writable-version_5, writable-said}

@@ -1,4 +1,4 @@
-use Rattle.ot_plain.specs.Names.{Name}
+use Rattle.ot_logic.specs.Names.{Name}
 use Rattle.ot_machine.proofs.RunLawful.{results-are}
 use Rattle.ot_machine.proofs.laws.results_law.Goals as goal
 

@@ -1,4 +1,4 @@
-use Rattle.ot_plain.specs.Names.{Name}
+use Rattle.ot_logic.specs.Names.{Name}
 use Rattle.ot_machine.specs.Writable.{IsWritable}
 use Rattle.ot_machine.proofs.RunLawful.{lawful-stays}
 use Rattle.ot_machine.proofs.laws.stays_law.Goals as goal

@@ -1,8 +1,8 @@
 use Rattle.std.proofs.Common.{◌≡◌, [], sym, ap, true, false}
-use Rattle.ot_plain.specs.Naming.{names}
+use Rattle.ot_logic.specs.Naming.{names}
 use Rattle.ot_kernel.specs.State.{named_at}
 use Rattle.ot_match.specs.Walk.{Maps}
-use Rattle.ot_plain.specs.PlainTrees.{term_of_tree}
+use Rattle.ot_logic.specs.PlainTrees.{term_of_tree}
 use Rattle.ot_match.specs.Found.{types_of, terms_of, maps_of}
 use Rattle.ot_match.proofs.Holding.{found_by}
 use Rattle.ot_match.proofs.find.find_match.Goals as goal

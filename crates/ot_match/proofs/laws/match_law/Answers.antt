@@ -1,4 +1,4 @@
-use Rattle.ot_plain.specs.Naming.{names, numbers}
+use Rattle.ot_logic.specs.Naming.{names, numbers}
 use Rattle.ot_laws.proofs.Tests.{tells_names, tells_numbers}
 use Rattle.ot_match.proofs.Matches.{matched_is_match, none_match, one_match, any_substitution}
 use Rattle.ot_match.proofs.Walking.{walk_matches}

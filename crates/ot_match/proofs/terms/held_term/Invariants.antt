@@ -1,7 +1,7 @@
 use Rattle.std.proofs.Common.{◌≡◌, drop}
 use Rattle.std.specs.Map.{lookup}
-use Rattle.ot_plain.specs.Naming.{names}
-use Rattle.ot_plain.specs.Hol.{same_var}
+use Rattle.ot_logic.specs.Naming.{names}
+use Rattle.ot_logic.specs.Hol.{same_var}
 use Rattle.ot_kernel.specs.State.{type_at}
 use Rattle.ot_match.specs.Found.{terms_of}
 use Rattle.ot_match.proofs.terms.held_term.Given as goal

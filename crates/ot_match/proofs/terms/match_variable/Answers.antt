@@ -1,11 +1,11 @@
 use Rattle.std.proofs.Common.{◌≡◌, subst}
-use Rattle.ot_plain.specs.Names.{Name}
-use Rattle.ot_plain.specs.Naming.{names}
-use Rattle.ot_plain.specs.Trees.{Variable, Free}
-use Rattle.ot_plain.specs.Hol.{nameless_in}
+use Rattle.ot_logic.specs.Names.{Name}
+use Rattle.ot_logic.specs.Naming.{names}
+use Rattle.ot_logic.specs.Trees.{Variable, Free}
+use Rattle.ot_logic.specs.NamedTerms.{nameless_in}
 use Rattle.ot_kernel.specs.State.{type_at, term_at, named_at}
 use Rattle.ot_match.specs.Walk.{put_term, walk_term}
-use Rattle.ot_plain.specs.PlainTrees.{type_of_tree}
+use Rattle.ot_logic.specs.PlainTrees.{type_of_tree}
 use Rattle.ot_match.specs.Found.{types_of, terms_of, maps_of}
 use Rattle.ot_view.specs.Binders.{binders_at}
 use Rattle.ot_match.specs.Steps.{answered, Meets}

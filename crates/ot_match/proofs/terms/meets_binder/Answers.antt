@@ -1,8 +1,8 @@
 use Rattle.std.proofs.Common.{◌∙◌, ap, map}
 use Rattle.ot_laws.proofs.Named.{nameless_in-nil}
 use Rattle.ot_laws.proofs.Tests.{tells_names}
-use Rattle.ot_plain.specs.Hol.{nameless_in}
-use Rattle.ot_plain.specs.Naming.{names}
+use Rattle.ot_logic.specs.NamedTerms.{nameless_in}
+use Rattle.ot_logic.specs.Naming.{names}
 use Rattle.ot_kernel.specs.State.{variable_at, named_at}
 use Rattle.ot_view.specs.Binders.{binders_at}
 use Rattle.ot_match.specs.Steps.{any_bound}

@@ -1,9 +1,9 @@
 use Rattle.std.proofs.Common.{ℕ, ◌++◌, ◌∷◌, [], ◌∙◌, sym, ap, Some}
 use Rattle.std.proofs.lemmas.List.{map-append}
-use Rattle.ot_plain.specs.Names.{Name}
-use Rattle.ot_plain.specs.Naming.{names}
-use Rattle.ot_plain.specs.Trees.{Variable}
-use Rattle.ot_plain.specs.Hol.{same_var, same_tm}
+use Rattle.ot_logic.specs.Names.{Name}
+use Rattle.ot_logic.specs.Naming.{names}
+use Rattle.ot_logic.specs.Trees.{Variable}
+use Rattle.ot_logic.specs.Hol.{same_var, same_tm}
 use Rattle.ot_kernel.specs.State.{type_at, term_at}
 use Rattle.ot_match.specs.Found.{terms_of}
 use Rattle.ot_match.specs.Steps.{answered}

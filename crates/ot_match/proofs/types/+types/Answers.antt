@@ -1,9 +1,9 @@
 use Rattle.std.proofs.Common.{◌∙◌, ap, refl, map, arith}
 use Rattle.std.proofs.lemmas.List.{length-map}
-use Rattle.ot_plain.specs.Naming.{names}
+use Rattle.ot_logic.specs.Naming.{names}
 use Rattle.ot_kernel.specs.State.{type_at}
 use Rattle.ot_match.specs.Walk.{walk_types}
-use Rattle.ot_plain.specs.PlainTrees.{type_of_tree, tys_of}
+use Rattle.ot_logic.specs.PlainTrees.{type_of_tree, tys_of}
 use Rattle.ot_match.specs.Found.{types_of}
 use Rattle.ot_match.proofs.Holding.{other_lengths, types_row}
 use Rattle.ot_match.proofs.types.+types.Goals as goal

@@ -1,8 +1,8 @@
 use Rattle.std.proofs.Common.{◌≡◌, drop, map, length}
-use Rattle.ot_plain.specs.Naming.{names}
+use Rattle.ot_logic.specs.Naming.{names}
 use Rattle.ot_kernel.specs.State.{types_at}
 use Rattle.ot_match.specs.Walk.{walk_types}
-use Rattle.ot_plain.specs.PlainTrees.{type_of_tree, tys_of}
+use Rattle.ot_logic.specs.PlainTrees.{type_of_tree, tys_of}
 use Rattle.ot_match.specs.Found.{types_of, AreTypesIn}
 use Rattle.ot_match.proofs.types.+types.Given as goal
 

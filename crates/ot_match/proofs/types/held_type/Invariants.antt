@@ -1,6 +1,6 @@
 use Rattle.std.proofs.Common.{◌≡◌, drop}
 use Rattle.std.specs.Map.{lookup}
-use Rattle.ot_plain.specs.Names.{same_name}
+use Rattle.ot_logic.specs.Names.{same_name}
 use Rattle.ot_match.proofs.types.held_type.Given as goal
 
 abbrev pub invariant-each : goal.invariant-each

@@ -1,9 +1,9 @@
 use Rattle.std.specs.Option.{option_map}
 use Rattle.std.proofs.Common.{◌<◌, ◌++◌, ◌∷◌, [], ◌∙◌, sym, ap, length, Some, ℕ}
 use Rattle.std.proofs.lemmas.List.{map-append}
-use Rattle.ot_plain.specs.Names.{Name, same_name}
-use Rattle.ot_plain.specs.Naming.{names}
-use Rattle.ot_plain.specs.Hol.{same_ty}
+use Rattle.ot_logic.specs.Names.{Name, same_name}
+use Rattle.ot_logic.specs.Naming.{names}
+use Rattle.ot_logic.specs.Hol.{same_ty}
 use Rattle.ot_kernel.specs.State.{type_at}
 use Rattle.ot_match.specs.Found.{types_of}
 use Rattle.ot_match.specs.Steps.{answered}

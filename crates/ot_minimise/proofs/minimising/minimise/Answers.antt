@@ -1,7 +1,7 @@
 use Rattle.std.proofs.Common.{◌≡◌, ◌∙◌, ap, sym, subst, length, map}
 use Rattle.std.specs.List.{All}
 use Rattle.ot_machine.specs.Meaning.{run_of, export_of}
-use Rattle.ot_plain.specs.Naming.{IsNameTable}
+use Rattle.ot_logic.specs.Naming.{IsNameTable}
 use Rattle.ot_write.specs.Bytes.{AreRootsInside, Writes, article_bytes}
 use Rattle.ot_minimise.specs.Minimised.{roots_in}
 use Rattle.ot_minimise.proofs.OverNames.{roots-inside, bytes-are}

@@ -1,5 +1,5 @@
 use Rattle.std.proofs.Common.{ap, ◌∙◌, ◌++◌, sym, subst, ◌<◌, length}
-use Rattle.ot_plain.specs.Names.{spelled}
+use Rattle.ot_logic.specs.Names.{spelled}
 use Rattle.ot_nodes.specs.Items.{name_at}
 use Rattle.ot_text.specs.Texts.{name_text}
 use Rattle.ot_listing.proofs.Pieces.{spelled-name}

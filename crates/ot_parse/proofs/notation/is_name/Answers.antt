@@ -1,4 +1,4 @@
-use Rattle.ot_plain.proofs.NameLemmas.{has-components}
+use Rattle.ot_logic.proofs.NameLemmas.{has-components}
 use Rattle.ot_parse.proofs.notation.is_name.Goals as goal
 
 pub returns : goal.returns

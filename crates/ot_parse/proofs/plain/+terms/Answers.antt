@@ -1,8 +1,8 @@
 use Rattle.std.proofs.Common.{◌∙◌, sym, ap}
 use Rattle.ot_text.specs.Texts.{tm_text}
 use Rattle.ot_text.proofs.Putting.{then, same-text}
-use Rattle.ot_plain.specs.PlainTrees.{term_of_tree}
-use Rattle.ot_plain.proofs.PlainTrees as trees
+use Rattle.ot_logic.specs.PlainTrees.{term_of_tree}
+use Rattle.ot_logic.proofs.PlainTrees as trees
 use Rattle.ot_parse.proofs.Texts.{application-pieces, front-function, front-side}
 use Rattle.ot_parse.proofs.plain.+terms.Goals as goal
 

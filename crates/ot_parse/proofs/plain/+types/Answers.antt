@@ -3,7 +3,7 @@ use Rattle.std.proofs.lemmas.Bool.Decides.{nat_tests}
 use Rattle.ot_text.specs.Texts.{spaced_text}
 use Rattle.ot_text.specs.Pages.{printed}
 use Rattle.ot_text.proofs.Putting.{then, same-text, puts-all, nothing}
-use Rattle.ot_plain.specs.PlainTrees.{type_of_tree, tys_of}
+use Rattle.ot_logic.specs.PlainTrees.{type_of_tree, tys_of}
 use Rattle.ot_parse.proofs.Texts.{function-pieces, operator-pieces, two, spaced-more, not-empty}
 use Rattle.ot_parse.proofs.plain.+types.Goals as goal
 

@@ -1,5 +1,5 @@
 use Rattle.std.proofs.Common.{◌∙◌, sym}
-use Rattle.ot_plain.specs.PlainTrees.{type_of_tree}
+use Rattle.ot_logic.specs.PlainTrees.{type_of_tree}
 use Rattle.ot_parse.proofs.Texts.{bool-result}
 use Rattle.ot_parse.proofs.plain.is_equality_type.Goals as goal
 

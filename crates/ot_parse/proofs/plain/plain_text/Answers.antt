@@ -4,10 +4,10 @@ use Rattle.ot_text.specs.Texts.{tm_text, ascending, hyps_text}
 use Rattle.ot_text.specs.Gathered.{bytes_in}
 use Rattle.ot_text.specs.Pages.{Appended}
 use Rattle.ot_text.proofs.Gathering.{texts-through, sequent-bytes}
-use Rattle.ot_plain.specs.PlainTrees.{term_of_tree}
+use Rattle.ot_logic.specs.PlainTrees.{term_of_tree}
 use Rattle.ot_parse.specs.Plain.{sequent_of}
 use Rattle.ot_parse.proofs.plain.plain_text.Goals as goal
-use Rattle.ot_plain.proofs.Results.{same_Err}
+use Rattle.ot_logic.proofs.Results.{same_Err}
 
 pub returns-in_err-texts-clause-too_large : goal.returns-in_err-texts-clause-too_large
 returns-in_err-texts-clause-too_large c = λ p.

@@ -1,6 +1,6 @@
 use Rattle.std.specs.Prelude.{codes}
 use Rattle.std.proofs.Common.{◌≡◌, ◌+◌, ◌∙◌, sym, subst, ap, arith, map, length}
-use Rattle.ot_plain.specs.PlainTrees.{term_of_tree}
+use Rattle.ot_logic.specs.PlainTrees.{term_of_tree}
 use Rattle.ot_forms.specs.Reading.{Reading}
 use Rattle.ot_parse.specs.Gives.{Gives}
 use Rattle.ot_parse.specs.ReadLines.{Kept, kept_of, hyps_meant}

@@ -1,5 +1,5 @@
 use Rattle.std.proofs.Common.{◌≡◌, [], false, length, sym, subst}
-use Rattle.ot_plain.specs.PlainTrees.{term_of_tree}
+use Rattle.ot_logic.specs.PlainTrees.{term_of_tree}
 use Rattle.ot_forms.specs.Refusals.{ReadsAsTerm}
 use Rattle.ot_forms.specs.Reading.{Got}
 use Rattle.ot_parse.specs.Values.{meant_of}

@@ -1,5 +1,5 @@
 use Rattle.std.proofs.Common.{◌∙◌, ◌++◌, ◌∷◌, [], ap, sym, map, Ok}
-use Rattle.ot_plain.specs.PlainTrees.{term_of_tree}
+use Rattle.ot_logic.specs.PlainTrees.{term_of_tree}
 use Rattle.ot_parse.specs.Values.{meant_of}
 use Rattle.ot_parse.specs.ReadLines.{kept_of, others, one_more}
 use Rattle.ot_parse.proofs.Components.{map-push}

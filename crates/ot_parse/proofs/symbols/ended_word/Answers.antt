@@ -3,7 +3,7 @@ use Rattle.std.proofs.lemmas.Bool.Decides.{nat_tests}
 use Rattle.ot_forms.specs.Reading.{ended}
 use Rattle.ot_parse.proofs.Lookups.{ended-other}
 use Rattle.ot_parse.proofs.symbols.ended_word.Goals as goal
-use Rattle.ot_plain.proofs.Elements.{drop-item}
+use Rattle.ot_logic.proofs.Elements.{drop-item}
 
 pub loop-candidate-preserved : goal.loop-candidate-preserved
 loop-candidate-preserved c =

@@ -1,5 +1,5 @@
 use Rattle.std.proofs.Common.{false}
-use Rattle.ot_plain.specs.PlainTrees.{type_of_tree}
+use Rattle.ot_logic.specs.PlainTrees.{type_of_tree}
 use Rattle.ot_parse.specs.Meant.{abstracted, wholly}
 use Rattle.ot_parse.specs.Values.{meant_of}
 use Rattle.std.proofs.Common.{◌∷◌}

@@ -1,6 +1,6 @@
 use Rattle.std.proofs.Common.{◌∙◌, ◌-◌, sym, ap, subst, arith, length, take, Ok}
 use Rattle.std.proofs.lemmas.List.{take_all}
-use Rattle.ot_plain.specs.PlainTrees.{type_of_tree}
+use Rattle.ot_logic.specs.PlainTrees.{type_of_tree}
 use Rattle.ot_parse.specs.TermFrames.{around}
 use Rattle.ot_parse.specs.TermCode.{frames_of}
 use Rattle.ot_parse.proofs.Places.{ArePassed, passed-start, passed-other, passed-found}

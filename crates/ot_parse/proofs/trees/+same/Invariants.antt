@@ -1,7 +1,7 @@
 use Rattle.std.proofs.Common.{◌≡◌, map, drop}
-use Rattle.ot_plain.specs.Hol.{same_tys}
-use Rattle.ot_plain.specs.Naming.{names}
-use Rattle.ot_plain.specs.PlainTrees.{type_of_tree, tys_of}
+use Rattle.ot_logic.specs.Hol.{same_tys}
+use Rattle.ot_logic.specs.Naming.{names}
+use Rattle.ot_logic.specs.PlainTrees.{type_of_tree, tys_of}
 use Rattle.ot_parse.proofs.trees.+same.Given as goal
 
 abbrev pub invariant-same_types-loop-i : goal.invariant-same_types-loop-i

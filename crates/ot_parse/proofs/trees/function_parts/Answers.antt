@@ -1,6 +1,6 @@
 use Rattle.std.proofs.Common.{◌∙◌, ap, sym}
-use Rattle.ot_plain.specs.PlainTrees.{type_of_tree}
-use Rattle.ot_plain.proofs.PlainTrees.{type_Op}
+use Rattle.ot_logic.specs.PlainTrees.{type_of_tree}
+use Rattle.ot_logic.proofs.PlainTrees.{type_Op}
 use Rattle.ot_parse.proofs.Texts.{arrow-is}
 use Rattle.ot_parse.proofs.trees.function_parts.Goals as goal
 

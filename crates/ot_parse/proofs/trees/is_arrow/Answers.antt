@@ -1,5 +1,5 @@
 use Rattle.std.proofs.Common.{◌∙◌, arith}
-use Rattle.ot_plain.specs.PlainTrees.{type_of_tree}
+use Rattle.ot_logic.specs.PlainTrees.{type_of_tree}
 use Rattle.ot_parse.proofs.Texts.{arrow-two, arrow-none, eq-false}
 use Rattle.ot_parse.proofs.trees.is_arrow.Goals as goal
 

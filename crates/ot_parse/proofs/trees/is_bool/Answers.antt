@@ -1,9 +1,9 @@
 use Rattle.std.proofs.Common.{◌∙◌, sym, ap, arith}
 use Rattle.std.proofs.lemmas.Bool.Decides.{nat_tests}
-use Rattle.ot_plain.specs.Hol.{same_ty, bool_ty}
-use Rattle.ot_plain.specs.Naming.{names}
-use Rattle.ot_plain.specs.PlainTrees.{type_of_tree}
-use Rattle.ot_plain.proofs.PlainTrees.{type_Op}
+use Rattle.ot_logic.specs.Hol.{same_ty, bool_ty}
+use Rattle.ot_logic.specs.Naming.{names}
+use Rattle.ot_logic.specs.PlainTrees.{type_of_tree}
+use Rattle.ot_logic.proofs.PlainTrees.{type_Op}
 use Rattle.ot_parse.proofs.Texts.{bool-some, bool-none}
 use Rattle.ot_parse.proofs.trees.is_bool.Goals as goal
 

@@ -1,6 +1,6 @@
 use Rattle.std.proofs.Common.{ap, sym, subst}
 use Rattle.ot_parse.specs.Frames.{frame_of, IsBackOf}
-use Rattle.ot_plain.specs.PlainTrees.{type_of_tree}
+use Rattle.ot_logic.specs.PlainTrees.{type_of_tree}
 use Rattle.ot_parse.proofs.types.back_of.Goals as goal
 
 pub returns-in-Domain : goal.returns-in-Domain

@@ -1,5 +1,5 @@
 use Rattle.ot_parse.specs.Frames.{Domain}
-use Rattle.ot_plain.specs.PlainTrees.{type_of_tree}
+use Rattle.ot_logic.specs.PlainTrees.{type_of_tree}
 use Rattle.ot_forms.specs.Reading.{type_at}
 use Rattle.ot_parse.proofs.FrameLaws.{handed-back, no-space, no-arrow, after-domain}
 use Rattle.ot_parse.proofs.types.back_of_domain.Goals as goal

@@ -1,6 +1,6 @@
 use Rattle.std.proofs.Common.{◌∙◌, ap, sym}
 use Rattle.ot_parse.specs.Frames.{Range}
-use Rattle.ot_plain.specs.PlainTrees.{type_of_tree}
+use Rattle.ot_logic.specs.PlainTrees.{type_of_tree}
 use Rattle.ot_forms.specs.Reading.{Got, type_at}
 use Rattle.ot_parse.proofs.FrameLaws.{handed-back, no-end, after-range}
 use Rattle.ot_parse.proofs.types.back_of_range.Goals as goal

@@ -1,5 +1,5 @@
 use Rattle.std.proofs.Common.{map}
-use Rattle.ot_plain.specs.PlainTrees.{type_of_tree}
+use Rattle.ot_logic.specs.PlainTrees.{type_of_tree}
 use Rattle.ot_parse.proofs.FrameLaws.{no-argument, further-argument}
 use Rattle.ot_parse.proofs.types.behind_arguments.Goals as goal
 

@@ -1,6 +1,6 @@
 use Rattle.std.proofs.Common.{subst}
 use Rattle.ot_forms.specs.Reading.{Got}
-use Rattle.ot_plain.specs.PlainTrees.{type_of_tree}
+use Rattle.ot_logic.specs.PlainTrees.{type_of_tree}
 use Rattle.ot_parse.specs.Frames.{frames_of}
 use Rattle.ot_parse.proofs.TypeFronts.{IsClosedTo, closing-step, closing-halts}
 use Rattle.ot_parse.proofs.types.close.Goals as goal

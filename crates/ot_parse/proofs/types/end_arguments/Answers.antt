@@ -1,8 +1,8 @@
 use Rattle.std.proofs.Common.{◌∙◌, ap, sym, map}
 use Rattle.ot_parse.specs.Frames.{Argument}
-use Rattle.ot_plain.specs.PlainTrees.{type_of_tree}
+use Rattle.ot_logic.specs.PlainTrees.{type_of_tree}
 use Rattle.ot_forms.specs.Reading.{Got}
-use Rattle.ot_plain.proofs.PlainTrees.{type_Op}
+use Rattle.ot_logic.proofs.PlainTrees.{type_Op}
 use Rattle.ot_parse.proofs.FrameLaws.{handed-back, arrow-ends, not-closed, whole-type}
 use Rattle.ot_parse.proofs.types.end_arguments.Goals as goal
 

@@ -1,5 +1,5 @@
 use Rattle.std.proofs.Common.{◌-◌, arith, subst, Ok, Err}
-use Rattle.ot_plain.specs.PlainTrees.{type_of_tree}
+use Rattle.ot_logic.specs.PlainTrees.{type_of_tree}
 use Rattle.ot_parse.proofs.TypeFronts.{FrontGoes, EndGoes, on-front, on-end}
 use Rattle.ot_parse.proofs.types.next_of.Goals as goal
 

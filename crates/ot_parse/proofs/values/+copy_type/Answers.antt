@@ -1,7 +1,7 @@
 use Rattle.std.proofs.Common.{◌∙◌, sym, ap, arith, map}
-use Rattle.ot_plain.specs.Trees.{TyOp}
-use Rattle.ot_plain.specs.PlainTrees.{type_of_tree, tys_of}
-use Rattle.ot_plain.proofs.PlainTrees.{type_Op}
+use Rattle.ot_logic.specs.Trees.{TyOp}
+use Rattle.ot_logic.specs.PlainTrees.{type_of_tree, tys_of}
+use Rattle.ot_logic.proofs.PlainTrees.{type_Op}
 use Rattle.ot_parse.proofs.Components.{copied-all, copy-more}
 use Rattle.ot_parse.proofs.values.+copy_type.Goals as goal
 

@@ -1,9 +1,9 @@
 use Rattle.std.proofs.Common.{◌≡◌, ◌∙◌, sym, ap, arith, suc, min, max, map}
-use Rattle.ot_plain.specs.Naming.{names}
-use Rattle.ot_plain.specs.Hol.{depth_ty}
-use Rattle.ot_plain.specs.Trees.{TyOp}
-use Rattle.ot_plain.specs.PlainTrees.{type_of_tree, tys_of}
-use Rattle.ot_plain.proofs.PlainTrees.{type_Op}
+use Rattle.ot_logic.specs.Naming.{names}
+use Rattle.ot_logic.specs.Hol.{depth_ty}
+use Rattle.ot_logic.specs.Trees.{TyOp}
+use Rattle.ot_logic.specs.PlainTrees.{type_of_tree, tys_of}
+use Rattle.ot_logic.proofs.PlainTrees.{type_Op}
 use Rattle.ot_parse.proofs.ValueLaws.{depth-more, depth-whole}
 use Rattle.ot_parse.proofs.values.+type_depth.Goals as goal
 use Rattle.ot_parse.proofs.values.+type_depth.Goals.{then-deepest-depth, else-deepest-depth}

@@ -1,7 +1,7 @@
 use Rattle.std.proofs.Common.{◌≡◌, map, take, min}
-use Rattle.ot_plain.specs.Hol.{depth_all}
-use Rattle.ot_plain.specs.Naming.{names}
-use Rattle.ot_plain.specs.PlainTrees.{type_of_tree, tys_of}
+use Rattle.ot_logic.specs.Hol.{depth_all}
+use Rattle.ot_logic.specs.Naming.{names}
+use Rattle.ot_logic.specs.PlainTrees.{type_of_tree, tys_of}
 use Rattle.ot_parse.proofs.values.+type_depth.Given as goal
 
 abbrev pub invariant-loop-arg : goal.invariant-loop-arg

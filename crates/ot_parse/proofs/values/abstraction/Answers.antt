@@ -1,5 +1,5 @@
 use Rattle.std.proofs.Common.{◌∷◌, sym, subst}
-use Rattle.ot_plain.specs.PlainTrees.{type_of_tree}
+use Rattle.ot_logic.specs.PlainTrees.{type_of_tree}
 use Rattle.ot_parse.specs.Meant.{abstracted}
 use Rattle.ot_parse.specs.Values.{IsMeant, meant_of, IsMade}
 use Rattle.ot_parse.proofs.values.abstraction.Goals as goal

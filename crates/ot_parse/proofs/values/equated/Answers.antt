@@ -1,6 +1,6 @@
 use Rattle.std.proofs.Common.{refl}
-use Rattle.ot_plain.specs.Naming.{names}
-use Rattle.ot_plain.specs.PlainTrees.{type_of_tree}
+use Rattle.ot_logic.specs.Naming.{names}
+use Rattle.ot_logic.specs.PlainTrees.{type_of_tree}
 use Rattle.ot_parse.proofs.Made.{equal-made, equal-none}
 use Rattle.ot_parse.proofs.values.equated.Goals as goal
 

@@ -1,6 +1,6 @@
-use Rattle.ot_plain.specs.Naming.{names}
-use Rattle.ot_plain.specs.Hol.{bool_ty}
-use Rattle.ot_plain.specs.PlainTrees.{term_of_tree}
+use Rattle.ot_logic.specs.Naming.{names}
+use Rattle.ot_logic.specs.Hol.{bool_ty}
+use Rattle.ot_logic.specs.PlainTrees.{term_of_tree}
 use Rattle.ot_parse.specs.Meant.{related_at}
 use Rattle.ot_parse.proofs.Made.{relation-made}
 use Rattle.ot_parse.proofs.values.joined.Goals as goal

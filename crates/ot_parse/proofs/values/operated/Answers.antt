@@ -1,5 +1,5 @@
 use Rattle.std.proofs.Common.{◌∙◌, [], sym}
-use Rattle.ot_plain.specs.PlainTrees.{term_of_tree}
+use Rattle.ot_logic.specs.PlainTrees.{term_of_tree}
 use Rattle.ot_parse.proofs.ValueLaws.{constant-is}
 use Rattle.ot_parse.proofs.Made.{operator-made, no-operator}
 use Rattle.ot_parse.proofs.values.operated.Goals as goal

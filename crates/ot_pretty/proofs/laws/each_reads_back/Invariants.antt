@@ -1,7 +1,7 @@
 use Rattle.std.specs.List.{All}
 use Rattle.std.proofs.Common.{List, take}
-use Rattle.ot_plain.specs.Names.{Name}
-use Rattle.ot_plain.specs.Trees.{Symbol}
+use Rattle.ot_logic.specs.Names.{Name}
+use Rattle.ot_logic.specs.Trees.{Symbol}
 use Rattle.ot_kernel.specs.State.{theorem_at}
 use Rattle.ot_forms.specs.Words.{IsNotation}
 use Rattle.ot_pretty.specs.Back.{ReadsBackAs}

@@ -1,5 +1,5 @@
 use Rattle.std.proofs.Common.{[]}
-use Rattle.ot_plain.specs.Trees.{Bound}
+use Rattle.ot_logic.specs.Trees.{Bound}
 use Rattle.ot_kernel.specs.State.{theorem_at}
 use Rattle.ot_pretty.proofs.Propositions.{propositions}
 use Rattle.ot_pretty.proofs.laws.one_reads_back.Goals as goal

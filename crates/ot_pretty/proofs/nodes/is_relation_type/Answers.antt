@@ -1,5 +1,5 @@
-use Rattle.ot_plain.specs.Hol.{bool_ty}
-use Rattle.ot_plain.specs.Naming.{names}
+use Rattle.ot_logic.specs.Hol.{bool_ty}
+use Rattle.ot_logic.specs.Naming.{names}
 use Rattle.ot_pretty.proofs.Relations.{not-range}
 use Rattle.ot_pretty.proofs.nodes.is_relation_type.Goals as goal
 

@@ -1,8 +1,8 @@
 use Rattle.std.specs.List.{All}
 use Rattle.std.proofs.Common.{◌<◌, length, map, sym, subst}
 use Rattle.std.proofs.lemmas.Result.{IfOk-weaker}
-use Rattle.ot_plain.specs.Lists.{AreDistinct, IsSameSet}
-use Rattle.ot_plain.proofs.Members.{All-from_members}
+use Rattle.ot_logic.specs.Lists.{AreDistinct, IsSameSet}
+use Rattle.ot_logic.proofs.Members.{All-from_members}
 use Rattle.ot_term.specs.declared.term.Symbol as code
 use Rattle.ot_pretty.specs.Found.{term_symbols}
 use Rattle.ot_pretty.specs.Run.{named_symbol}

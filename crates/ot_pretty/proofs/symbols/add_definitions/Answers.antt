@@ -1,8 +1,8 @@
 use Rattle.std.specs.List.{flat_map}
 use Rattle.std.proofs.Common.{map, subst, ap, ◌∙◌, arith}
 use Rattle.std.proofs.lemmas.List.{take_all}
-use Rattle.ot_plain.specs.Hol.{used}
-use Rattle.ot_plain.specs.Naming.{names}
+use Rattle.ot_logic.specs.Hol.{used}
+use Rattle.ot_logic.specs.Naming.{names}
 use Rattle.ot_kernel.specs.Definitions.{definition_at}
 use Rattle.ot_pretty.specs.Run.{Adds}
 use Rattle.ot_pretty.proofs.Roots.{adds-nothing, definitions-more, take-item}

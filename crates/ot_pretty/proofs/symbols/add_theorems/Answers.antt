@@ -1,7 +1,7 @@
 use Rattle.std.proofs.Common.{map, subst, arith}
 use Rattle.std.proofs.lemmas.List.{take_all}
-use Rattle.ot_plain.specs.Hol.{symbols_in}
-use Rattle.ot_plain.specs.Naming.{names}
+use Rattle.ot_logic.specs.Hol.{symbols_in}
+use Rattle.ot_logic.specs.Naming.{names}
 use Rattle.ot_kernel.specs.State.{theorem_at}
 use Rattle.ot_pretty.specs.Run.{Adds}
 use Rattle.ot_pretty.proofs.Roots.{adds-nothing, theorems-more}

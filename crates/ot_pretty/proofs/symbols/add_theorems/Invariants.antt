@@ -1,6 +1,6 @@
 use Rattle.std.proofs.Common.{map, take}
-use Rattle.ot_plain.specs.Hol.{symbols_in}
-use Rattle.ot_plain.specs.Naming.{names}
+use Rattle.ot_logic.specs.Hol.{symbols_in}
+use Rattle.ot_logic.specs.Naming.{names}
 use Rattle.ot_kernel.specs.State.{theorem_at}
 use Rattle.ot_pretty.specs.Run.{Adds}
 use Rattle.ot_pretty.proofs.symbols.add_theorems.Given as goal

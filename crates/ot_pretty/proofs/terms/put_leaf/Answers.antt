@@ -1,6 +1,6 @@
 use Rattle.std.proofs.Common.{◌≡◌, suc, ◌-◌, ap, sym, ◌∙◌, arith}
-use Rattle.ot_plain.specs.Hol.{at_place}
-use Rattle.ot_plain.specs.Naming.{names}
+use Rattle.ot_logic.specs.NamedTerms.{at_place}
+use Rattle.ot_logic.specs.Naming.{names}
 use Rattle.ot_kernel.specs.State.{variable_at}
 use Rattle.ot_forms.specs.Printing.{binder_name}
 use Rattle.ot_text.proofs.Putting.{same-text}

@@ -1,5 +1,5 @@
 use Rattle.std.proofs.Common.{ap}
-use Rattle.ot_plain.specs.Naming.{names}
+use Rattle.ot_logic.specs.Naming.{names}
 use Rattle.ot_laws.proofs.Tests.{tells_names}
 use Rattle.ot_laws.proofs.Named.{nameless_in-nil}
 use Rattle.ot_kernel.specs.State.{named_at}

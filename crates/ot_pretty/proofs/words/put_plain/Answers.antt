@@ -1,5 +1,5 @@
 use Rattle.std.proofs.Common.{◌∙◌, sym}
-use Rattle.ot_plain.specs.Names.{spelled}
+use Rattle.ot_logic.specs.Names.{spelled}
 use Rattle.ot_forms.specs.Words.{is_bare, dotted}
 use Rattle.ot_text.proofs.Putting.{same-text}
 use Rattle.ot_print.proofs.Pieces.{cond-true, cond-false}

@@ -1,9 +1,9 @@
 use Rattle.std.specs.Prelude.{IfNone, IfSome, ◌≢◌}
 use Rattle.std.proofs.Common.{◌≡◌, ℕ, ◌<◌, List, length, false, Option, Some, None}
-use Rattle.ot_plain.specs.Names.{Name}
-use Rattle.ot_plain.specs.Trees.{Ty, Variable, Named}
-use Rattle.ot_plain.specs.Hol.{nameless_in}
-use Rattle.ot_plain.specs.Naming.{names, IsNameTable}
+use Rattle.ot_logic.specs.Names.{Name}
+use Rattle.ot_logic.specs.Trees.{Ty, Variable, Named}
+use Rattle.ot_logic.specs.NamedTerms.{nameless_in}
+use Rattle.ot_logic.specs.Naming.{names, IsNameTable}
 use Rattle.ot_term.specs.Term.{TermTable}
 use Rattle.ot_term.specs.TermTable.{term_at}
 use Rattle.ot_term.specs.Equality.{named_equation}

@@ -1,8 +1,8 @@
 use Rattle.std.specs.Prelude.{MatchOption, IfNone, IfSome, ◌≢◌}
 use Rattle.std.proofs.Common.{◌≡◌, ℕ, ◌<◌, length, false, Option, Some, None}
-use Rattle.ot_plain.specs.Trees.{Ty}
-use Rattle.ot_plain.specs.Hol.{fun_ty}
-use Rattle.ot_plain.specs.Naming.{names, numbers, IsNameTable}
+use Rattle.ot_logic.specs.Trees.{Ty}
+use Rattle.ot_logic.specs.Hol.{fun_ty}
+use Rattle.ot_logic.specs.Naming.{names, numbers, IsNameTable}
 use Rattle.ot_type.specs.TypeTable.{type_at}
 use Rattle.ot_term.specs.Term.{TermTable}
 use Rattle.ot_kernel.specs.State as state

@@ -1,6 +1,6 @@
 use Rattle.std.proofs.Common.{sym, ap}
-use Rattle.ot_plain.specs.Hol.{nameless_in}
-use Rattle.ot_plain.specs.Naming.{names}
+use Rattle.ot_logic.specs.NamedTerms.{nameless_in}
+use Rattle.ot_logic.specs.Naming.{names}
 use Rattle.ot_view.specs.Binders.{binders_at}
 use Rattle.ot_text.specs.Texts.{tm_text}
 use Rattle.ot_text.proofs.Putting.{then, same-text}

@@ -1,6 +1,6 @@
 use Rattle.std.proofs.Common.{subst}
 use Rattle.std.specs.Prelude.{Result, IfSome, IsSomeAnd}
-use Rattle.ot_io.specs.Causes.{Rose}
+use Rattle.ot_io.specs.Causes.{CountRose}
 use Rattle.ot_link.specs.declared.fault.LinkFault.{LinkFault}
 use Rattle.ot_program.specs.Reply.{ShowReadable, stop_status}
 use Rattle.ot_program.specs.Answer.{FailedAt, LastInput}
@@ -27,7 +27,7 @@ returns-in-Err-clause-ended g c =
     let P : Type 0 =
     FailedAt path (g.S.Source.faults c.args.input.now) (g.S.Source.faults c.run_noted.new.input)
     (g.F.Source.faults c.args.files.now) (g.F.Source.faults c.run_noted.new.files) in
-    let Q : Type 0 = Rose (g.F.Source.misses c.args.files.now) (g.F.Source.misses c.run_noted.new.files) in
+    let Q : Type 0 = CountRose (g.F.Source.misses c.args.files.now) (g.F.Source.misses c.run_noted.new.files) in
     let s = c.run_noted.new.session in
     let o = end_at s.kernel c.in-Err.stop in
     let ended = subst (λ (r : Result NotedRun LinkFault). IfSome

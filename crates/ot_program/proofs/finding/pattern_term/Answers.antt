@@ -1,7 +1,7 @@
 use Rattle.std.proofs.Common.{◌≡◌, ◌∙◌, ap, sym, subst, List, map}
 use Rattle.std.specs.Prelude.{Ok}
-use Rattle.ot_plain.specs.Names.{Name}
-use Rattle.ot_plain.specs.PlainTrees.{term_of_tree}
+use Rattle.ot_logic.specs.Names.{Name}
+use Rattle.ot_logic.specs.PlainTrees.{term_of_tree}
 use Rattle.ot_parse.specs.Refused.{IsTermRefusal}
 use Rattle.ot_parse.specs.declared.refusal.ReadRefusal.TheVariants.{At}
 use Rattle.ot_read.specs.Lines.{term_read}

@@ -1,5 +1,5 @@
 use Rattle.std.proofs.Common.{subst}
-use Rattle.ot_io.specs.Causes.{Rose}
+use Rattle.ot_io.specs.Causes.{CountRose}
 use Rattle.ot_program.specs.Reply.{FindPattern, found}
 use Rattle.ot_program.specs.Answer.{FailedAt, LastInput}
 use Rattle.ot_program.specs.Verdicts.{FoundEndsAs, HasEndedSearch, IfEnded, IsTaskVerdict}
@@ -17,7 +17,7 @@ returns-in-Ok-clause-verdict g c =
     let at = g.F.Source.at c.searched.new.files in
     let P : Type 0 = FailedAt path (g.S.Source.faults c.args.input.now) (g.S.Source.faults c.searched.new.input)
     (g.F.Source.faults c.args.files.now) (g.F.Source.faults c.searched.new.files) in
-    let Q : Type 0 = Rose (g.F.Source.misses c.args.files.now) (g.F.Source.misses c.searched.new.files) in
+    let Q : Type 0 = CountRose (g.F.Source.misses c.args.files.now) (g.F.Source.misses c.searched.new.files) in
     let h = c.in-Ok.ensures.searched in
     let fs = found path h.made in
     let verdict = c.found_verdict.ensures in
@@ -39,7 +39,7 @@ returns-in-Err-Said-clause-verdict g c =
     let at = g.F.Source.at c.searched.new.files in
     let P : Type 0 = FailedAt path (g.S.Source.faults c.args.input.now) (g.S.Source.faults c.searched.new.input)
     (g.F.Source.faults c.args.files.now) (g.F.Source.faults c.searched.new.files) in
-    let Q : Type 0 = Rose (g.F.Source.misses c.args.files.now) (g.F.Source.misses c.searched.new.files) in
+    let Q : Type 0 = CountRose (g.F.Source.misses c.args.files.now) (g.F.Source.misses c.searched.new.files) in
     let v = c.in-Err-Said.verdict in
     let ended = subst (IfEnded (HasEndedSearch packages pattern path folder left at P Q))
     c.in-Err-Said.field-0-is c.in-Err-Said.ensures.ended in

@@ -1,5 +1,5 @@
 use Rattle.std.proofs.Common.{◌≡◌, ◌∙◌, map}
-use Rattle.ot_plain.specs.PlainTrees.{term_of_tree}
+use Rattle.ot_logic.specs.PlainTrees.{term_of_tree}
 use Rattle.ot_program.proofs.RunLemmas.{exported_within}
 use Rattle.ot_program.proofs.FindingLemmas.{found_exports, more_found}
 use Rattle.ot_program.proofs.finding.search_exports.Goals as goal

@@ -1,7 +1,7 @@
 use Rattle.std.proofs.Common.{map}
 use Rattle.std.specs.Prelude.{string_bytes}
 use Rattle.std.proofs.lemmas.Result.{err_from_is_err_and}
-use Rattle.ot_io.specs.Causes.{Rose}
+use Rattle.ot_io.specs.Causes.{CountRose}
 use Rattle.ot_program.specs.Answer.{FailedAt, LastInput}
 use Rattle.ot_program.specs.Verdicts.{HasEndedInput, HasEndedSearch}
 use Rattle.ot_program.proofs.NotedLemmas.{keeps}
@@ -22,7 +22,7 @@ returns-in_err-noted-clause-ended g c =
     let P : Type 0 =
     FailedAt path (g.S.Source.faults c.args.input.now) (g.S.Source.faults c.input_run.new.input)
     (g.F.Source.faults c.args.files.now) (g.F.Source.faults c.input_run.new.files) in
-    let Q : Type 0 = Rose (g.F.Source.misses c.args.files.now) (g.F.Source.misses c.input_run.new.files) in
+    let Q : Type 0 = CountRose (g.F.Source.misses c.args.files.now) (g.F.Source.misses c.input_run.new.files) in
     let p = err_from_is_err_and c.from_residual.result c.from_residual.ensures.1 in
     rw (p.1, p.2) (if_ended (HasEndedInput packages path folder left at P Q)
     (HasEndedSearch packages pattern path folder left at P Q) c.in_err-noted.field-0.0

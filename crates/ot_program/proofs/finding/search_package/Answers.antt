@@ -2,8 +2,8 @@ use Rattle.std.proofs.Common.{◌≡◌, ◌∙◌, ◌++◌, List, ap, subst}
 use Rattle.std.specs.Global.{Global}
 use Rattle.std.specs.Option.{option_map}
 use Rattle.std.specs.Prelude.{Result, Vec, IfSome, IsSomeAnd}
-use Rattle.ot_plain.specs.PlainTrees.{term_of_tree}
-use Rattle.ot_io.specs.Causes.{Rose}
+use Rattle.ot_logic.specs.PlainTrees.{term_of_tree}
+use Rattle.ot_io.specs.Causes.{CountRose}
 use Rattle.ot_blocks.specs.Paths.{package_path}
 use Rattle.ot_find.specs.Matches.{Found, matches_in}
 use Rattle.ot_link.specs.declared.fault.LinkFault.{LinkFault}
@@ -16,8 +16,8 @@ use Rattle.ot_program.proofs.finding.search_package.Goals as goal
 
 pub returns-in-Ok-clause-ended : goal.returns-in-Ok-clause-ended
 returns-in-Ok-clause-ended g c =
-    let P : Type 0 = Rose (g.F.Source.faults c.args.files.now) (g.F.Source.faults c.run_theory.new.files) in
-    let Q : Type 0 = Rose (g.F.Source.misses c.args.files.now) (g.F.Source.misses c.run_theory.new.files) in
+    let P : Type 0 = CountRose (g.F.Source.faults c.args.files.now) (g.F.Source.faults c.run_theory.new.files) in
+    let Q : Type 0 = CountRose (g.F.Source.misses c.args.files.now) (g.F.Source.misses c.run_theory.new.files) in
     err_ended (λ v. ⊥) (HasEndedRun c.args.packages.now c.args.full.now
     (g.F.Source.folder c.args.files.now) (g.F.Source.at c.run_theory.new.files) P Q)
     c.search_exports.result
@@ -52,8 +52,8 @@ returns-clause-ended g c =
     let path = c.deref.result.now in
     let folder = g.F.Source.folder c.args.files.now in
     let at = g.F.Source.at c.run_theory.new.files in
-    let P : Type 0 = Rose (g.F.Source.faults c.args.files.now) (g.F.Source.faults c.run_theory.new.files) in
-    let Q : Type 0 = Rose (g.F.Source.misses c.args.files.now) (g.F.Source.misses c.run_theory.new.files) in
+    let P : Type 0 = CountRose (g.F.Source.faults c.args.files.now) (g.F.Source.faults c.run_theory.new.files) in
+    let Q : Type 0 = CountRose (g.F.Source.misses c.args.files.now) (g.F.Source.misses c.run_theory.new.files) in
     let s = c.run_theory.new.session in
     let o = end_at s.kernel c.in-Err.stop in
     let same : path ≡ package_path packages full =

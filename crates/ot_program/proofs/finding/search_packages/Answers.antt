@@ -1,9 +1,9 @@
 use Rattle.std.proofs.Common.{◌∙◌, ℕ, List, inl, refl, sym, subst, take, drop, suc, map, arith}
 use Rattle.std.specs.Prelude.{string_bytes}
 use Rattle.std.proofs.lemmas.Result.{err_from_is_err_and}
-use Rattle.ot_plain.specs.PlainTrees.{term_of_tree}
-use Rattle.ot_plain.specs.Lists.{IsMember}
-use Rattle.ot_io.specs.Causes.{Rose}
+use Rattle.ot_logic.specs.PlainTrees.{term_of_tree}
+use Rattle.ot_logic.specs.Lists.{IsMember}
+use Rattle.ot_io.specs.Causes.{CountRose}
 use Rattle.ot_program.specs.Verdicts.{HasEndedRun, HasEndedRuns, AreSearched}
 use Rattle.ot_program.proofs.NotedLemmas.{rose_later, keeps}
 use Rattle.ot_program.proofs.FindingLemmas.{if_ended, none_searched, one_searched, runs_ended}
@@ -52,13 +52,14 @@ returns-in_err-search_package-clause-ended g c =
     let ended =
     rw (c.deref.ensures, c.each.invariant.files.keeps.same_folder) at c.in_err-search_package.ensures.ended in
     let p = err_from_is_err_and c.from_residual.result c.from_residual.ensures.1 in
-    rw (p.1, p.2) (if_ended (HasEndedRun packages full folder at (Rose f1 f2) (Rose m1 m2))
-    (HasEndedRuns packages (map string_bytes xs) folder at (Rose f0 f2) (Rose m0 m2))
+    rw (p.1, p.2) (if_ended (HasEndedRun packages full folder at (CountRose f1 f2) (CountRose m1 m2))
+    (HasEndedRuns packages (map string_bytes xs) folder at (CountRose f0 f2) (CountRose m0 m2))
     c.in_err-search_package.field-0.0
-    (λ v has. subst (λ (fulls : List (List ℕ)). HasEndedRuns packages fulls folder at (Rose f0 f2) (Rose m0 m2) v)
+    (λ v has. subst
+    (λ (fulls : List (List ℕ)). HasEndedRuns packages fulls folder at (CountRose f0 f2) (CountRose m0 m2) v)
     (sym cut)
     (runs_ended packages folder front back full (term_of_tree c.args.pattern.now)
-    c.args.search.now c.each.search at (Rose f1 f2) (Rose m1 m2) (Rose f0 f2) (Rose m0 m2)
+    c.args.search.now c.each.search at (CountRose f1 f2) (CountRose m1 m2) (CountRose f0 f2) (CountRose m0 m2)
     (rose_later f0 f1 f2 c.each.invariant.files.keeps.later)
     (rose_later m0 m1 m2 c.each.invariant.files.keeps.later_misses) c.each.invariant.searched v has))
     ended)

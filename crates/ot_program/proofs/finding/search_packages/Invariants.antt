@@ -1,6 +1,6 @@
 use Rattle.std.proofs.Common.{◌≡◌, [], map, take}
 use Rattle.std.specs.Prelude.{string_bytes}
-use Rattle.ot_plain.specs.PlainTrees.{term_of_tree}
+use Rattle.ot_logic.specs.PlainTrees.{term_of_tree}
 use Rattle.ot_program.specs.Answer.{ClosesFiles}
 use Rattle.ot_program.specs.Verdicts.{AreSearched}
 use Rattle.ot_program.proofs.finding.search_packages.Given as goal

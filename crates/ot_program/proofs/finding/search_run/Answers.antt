@@ -1,8 +1,8 @@
 use Rattle.std.proofs.Common.{◌∙◌, ap, map}
 use Rattle.std.specs.Prelude.{string_bytes}
 use Rattle.std.proofs.lemmas.Result.{err_from_is_err_and}
-use Rattle.ot_plain.specs.PlainTrees.{term_of_tree}
-use Rattle.ot_io.specs.Causes.{Rose}
+use Rattle.ot_logic.specs.PlainTrees.{term_of_tree}
+use Rattle.ot_io.specs.Causes.{CountRose}
 use Rattle.ot_program.specs.Answer.{FailedAt}
 use Rattle.ot_program.specs.Verdicts.{noted_of, HasEndedPattern, HasEndedRuns, HasEndedSearch}
 use Rattle.ot_program.proofs.FindingLemmas.{if_ended, pattern_ends, runs_end, has_searched}
@@ -15,7 +15,7 @@ returns-in_err-term-clause-ended g c = λ input i j required ran.
     let path = c.args.query.path.now in
     let folder = g.F.Source.folder c.args.files.now in
     let P : Type 0 = FailedAt path i j (g.F.Source.faults c.args.files.now) (g.F.Source.faults c.args.files.now) in
-    let Q : Type 0 = Rose (g.F.Source.misses c.args.files.now) (g.F.Source.misses c.args.files.now) in
+    let Q : Type 0 = CountRose (g.F.Source.misses c.args.files.now) (g.F.Source.misses c.args.files.now) in
     let at = g.F.Source.at c.args.files.now in
     let n = noted_of c.args.session.now c.args.run.now in
     let p = err_from_is_err_and c.from_residual.result c.from_residual.ensures.1 in
@@ -39,8 +39,8 @@ returns-in_err-search_packages-clause-ended g c = λ input i j required ran.
     let n = noted_of c.args.session.now c.args.run.now in
     let p = err_from_is_err_and c.from_residual-in_err-search_packages.result
     c.from_residual-in_err-search_packages.ensures.1 in
-    rw (p.1, p.2) (if_ended (HasEndedRuns packages fulls folder at (Rose f0 f1) (Rose m0 m1))
-    (HasEndedSearch packages pattern path folder input at (FailedAt path i j f0 f1) (Rose m0 m1))
+    rw (p.1, p.2) (if_ended (HasEndedRuns packages fulls folder at (CountRose f0 f1) (CountRose m0 m1))
+    (HasEndedSearch packages pattern path folder input at (FailedAt path i j f0 f1) (CountRose m0 m1))
     c.in_err-search_packages.field-0.0
     (runs_end packages pattern path folder input fulls required n ran (term_of_tree c.in_ok-term.term)
     c.in_ok-term.ensures.is_pattern at m0 m1 m0 f0 f1 f0 i j (λ h. h) (λ h. h))
@@ -55,7 +55,7 @@ returns-in_err-search_exports-clause-ended g c = λ input i j required ran.
     let at = g.F.Source.at c.search_packages.new.files in
     let P : Type 0 =
     FailedAt path i j (g.F.Source.faults c.args.files.now) (g.F.Source.faults c.search_packages.new.files) in
-    let Q : Type 0 = Rose (g.F.Source.misses c.args.files.now) (g.F.Source.misses c.search_packages.new.files) in
+    let Q : Type 0 = CountRose (g.F.Source.misses c.args.files.now) (g.F.Source.misses c.search_packages.new.files) in
     let p = err_from_is_err_and c.from_residual-in_err-search_exports.result
     c.from_residual-in_err-search_exports.ensures.1 in
     rw (p.1, p.2) (if_ended (λ v. ⊥) (HasEndedSearch packages pattern path folder input at P Q)

@@ -1,5 +1,5 @@
 use Rattle.std.proofs.lemmas.Result.{err_from_is_err_and}
-use Rattle.ot_io.specs.Causes.{Rose}
+use Rattle.ot_io.specs.Causes.{CountRose}
 use Rattle.ot_program.specs.Answer.{FailedAt, LastInput}
 use Rattle.ot_program.specs.Verdicts.{HasEndedWalk, HasEndedSearch}
 use Rattle.ot_program.proofs.NotedLemmas.{leaves, keeps}
@@ -22,8 +22,8 @@ returns-in_err-fulls-clause-ended g c =
     let m0 = g.F.Source.misses c.args.files.now in
     let m1 = g.F.Source.misses c.required_packages.new.files in
     let p = err_from_is_err_and c.from_residual.result c.from_residual.ensures.1 in
-    rw (p.1, p.2) (if_ended (HasEndedWalk packages path folder at (Rose f0 f1) (Rose m0 m1))
-    (HasEndedSearch packages pattern path folder left at (FailedAt path i i f0 f1) (Rose m0 m1))
+    rw (p.1, p.2) (if_ended (HasEndedWalk packages path folder at (CountRose f0 f1) (CountRose m0 m1))
+    (HasEndedSearch packages pattern path folder left at (FailedAt path i i f0 f1) (CountRose m0 m1))
     c.in_err-fulls.field-0.0
     (walk_ends packages pattern path folder left at m0 m1 f0 f1 i i) c.in_err-fulls.ensures.ended)
 
@@ -33,8 +33,8 @@ returns-in_err-fulls-clause-last g c =
     let path = c.args.query.path.now in
     let folder = g.F.Source.folder c.args.files.now in
     let at = g.F.Source.at c.required_packages.new.files in
-    let P = Rose (g.F.Source.faults c.args.files.now) (g.F.Source.faults c.required_packages.new.files) in
-    let Q = Rose (g.F.Source.misses c.args.files.now) (g.F.Source.misses c.required_packages.new.files) in
+    let P = CountRose (g.F.Source.faults c.args.files.now) (g.F.Source.faults c.required_packages.new.files) in
+    let Q = CountRose (g.F.Source.misses c.args.files.now) (g.F.Source.misses c.required_packages.new.files) in
     let p = err_from_is_err_and c.from_residual.result c.from_residual.ensures.1 in
     rw (p.1, p.2) (if_ended (HasEndedWalk packages path folder at P Q) (λ v. LastInput path folder at)
     c.in_err-fulls.field-0.0 (walk_last packages path folder at P Q) c.in_err-fulls.ensures.ended)

@@ -2,7 +2,7 @@ use Rattle.std.proofs.Common.{subst}
 use Rattle.std.specs.Global.{Global}
 use Rattle.std.specs.Option.{option_map}
 use Rattle.std.specs.Prelude.{Vec, Option, Result, IfSome}
-use Rattle.ot_plain.specs.Names.{Name}
+use Rattle.ot_logic.specs.Names.{Name}
 use Rattle.ot_kernel.specs.State.{State}
 use Rattle.ot_link.specs.Answers.{Comes}
 use Rattle.ot_link.specs.Stops.{Stop}

@@ -1,4 +1,4 @@
-use Rattle.ot_io.specs.Causes.{Rose}
+use Rattle.ot_io.specs.Causes.{CountRose}
 use Rattle.ot_program.specs.Reply.{RunSample, MakeSample, CheckLog, ShowReadable}
 use Rattle.ot_program.specs.Answer.{FailedAt, FailedIn}
 use Rattle.ot_program.specs.Verdicts.{job_task, end_of, noted_end_of, log_end_of}
@@ -10,7 +10,7 @@ returns-in_ok-session-in-RunInput-clause-verdict g c =
     let P : Type 0 = FailedAt c.in-RunInput.job.path.now (g.S.Source.faults c.args.input.now)
     (g.S.Source.faults c.run_input-ran.new.input) (g.F.Source.faults c.args.files.now)
     (g.F.Source.faults c.run_input-ran.new.files) in
-    let Q : Type 0 = Rose (g.F.Source.misses c.args.files.now) (g.F.Source.misses c.run_input-ran.new.files) in
+    let Q : Type 0 = CountRose (g.F.Source.misses c.args.files.now) (g.F.Source.misses c.run_input-ran.new.files) in
     let ran = c.run_input-ran.ensures in
     rw c.in-RunInput.is (task_verdict P Q (job_task c.in-RunInput.job) (g.F.Source.folder c.args.files.now)
     (g.S.Source.left c.args.input.now) (g.F.Source.at c.run_input-ran.new.files)
@@ -26,7 +26,8 @@ returns-in-CheckLog-clause-verdict g c =
     let P : Type 0 = FailedAt path (g.S.Source.faults c.args.input.now)
     (g.S.Source.faults c.check_log-checked.new.input) (g.F.Source.faults c.args.files.now)
     (g.F.Source.faults c.check_log-checked.new.files) in
-    let Q : Type 0 = Rose (g.F.Source.misses c.args.files.now) (g.F.Source.misses c.check_log-checked.new.files) in
+    let Q : Type 0 =
+    CountRose (g.F.Source.misses c.args.files.now) (g.F.Source.misses c.check_log-checked.new.files) in
     let checked = c.check_log-checked.ensures in
     rw c.in-CheckLog.is (task_verdict P Q (CheckLog path) (g.F.Source.folder c.args.files.now)
     (g.S.Source.left c.args.input.now) (g.F.Source.at c.check_log-checked.new.files)
@@ -43,7 +44,7 @@ returns-in_ok-session-in-ShowReadable-clause-verdict g c =
     let P : Type 0 = FailedAt path (g.S.Source.faults c.args.input.now)
     (g.S.Source.faults c.run_noted-ran.new.input) (g.F.Source.faults c.args.files.now)
     (g.F.Source.faults c.run_noted-ran.new.files) in
-    let Q : Type 0 = Rose (g.F.Source.misses c.args.files.now) (g.F.Source.misses c.run_noted-ran.new.files) in
+    let Q : Type 0 = CountRose (g.F.Source.misses c.args.files.now) (g.F.Source.misses c.run_noted-ran.new.files) in
     let ran = c.run_noted-ran.ensures in
     rw c.in-ShowReadable.is (task_verdict P Q (ShowReadable packages path) (g.F.Source.folder c.args.files.now)
     (g.S.Source.left c.args.input.now) (g.F.Source.at c.run_noted-ran.new.files)
@@ -59,7 +60,7 @@ returns-in-RunSample-clause-verdict g c =
     let i = g.S.Source.faults c.args.input.now in
     let f = g.F.Source.faults c.args.files.now in
     let m = g.F.Source.misses c.args.files.now in
-    rw c.in-RunSample.is (causeless (FailedIn t i i f f) (Rose m m) t folder left at c.run_sample.result
+    rw c.in-RunSample.is (causeless (FailedIn t i i f f) (CountRose m m) t folder left at c.run_sample.result
     (c.run_sample.ensures folder left at))
 
 pub returns-in-MakeSample-clause-verdict : goal.returns-in-MakeSample-clause-verdict
@@ -71,5 +72,5 @@ returns-in-MakeSample-clause-verdict g c =
     let i = g.S.Source.faults c.args.input.now in
     let f = g.F.Source.faults c.args.files.now in
     let m = g.F.Source.misses c.args.files.now in
-    rw c.in-MakeSample.is (accepted_verdict (FailedIn t i i f f) (Rose m m) t folder left at c.make_sample.result
+    rw c.in-MakeSample.is (accepted_verdict (FailedIn t i i f f) (CountRose m m) t folder left at c.make_sample.result
     (c.make_sample.ensures.says folder left at) c.make_sample.ensures.accepted tt)

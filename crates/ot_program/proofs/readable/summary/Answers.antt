@@ -1,6 +1,6 @@
 use Rattle.std.specs.Prelude.{true, nat_le, IfOk, OnOk}
 use Rattle.std.proofs.Common.{◌≡◌, ◌∙◌, ap, subst, List, length, map, Err}
-use Rattle.ot_plain.specs.Names.{Name}
+use Rattle.ot_logic.specs.Names.{Name}
 use Rattle.ot_program.specs.Reply.{readable, summary_limit}
 use Rattle.ot_program.specs.Answer.{AreReadBack}
 use Rattle.ot_program.specs.Verdicts.{noted_from, ReadableEndsAs}

@@ -1,7 +1,7 @@
 use Rattle.std.specs.Prelude.{Result, Ok, IfOk, IfErr}
 use Rattle.std.proofs.Common.{◌≡◌, ◌∙◌, ap, subst, List, map}
-use Rattle.ot_plain.specs.Names.{Name}
-use Rattle.ot_plain.specs.Trees.{Sequent}
+use Rattle.ot_logic.specs.Names.{Name}
+use Rattle.ot_logic.specs.Trees.{Sequent}
 use Rattle.ot_theory.specs.Lines.{lines_of}
 use Rattle.ot_parse.specs.Plain.{sequent_of}
 use Rattle.ot_read.specs.Lines.{RefusedLine, lines_read, IsLineRefusal}

@@ -1,7 +1,7 @@
 use Rattle.std.proofs.Common.{subst, inl, inr}
 use Rattle.std.specs.Option.{option_and_then}
 use Rattle.std.specs.Prelude.{Result, IfSome}
-use Rattle.ot_io.specs.Causes.{Rose}
+use Rattle.ot_io.specs.Causes.{CountRose}
 use Rattle.ot_link.specs.declared.fault.LinkFault.{LinkFault}
 use Rattle.ot_program.specs.Reply.{ShowReadable, ReadLines, noted_at, stop_status}
 use Rattle.ot_program.specs.Answer.{FailedAt, FailedIn, LastInput}
@@ -39,10 +39,11 @@ returns-in-Ok-clause-verdict g c =
     c.in-Ok.is c.run_noted.ensures.end in
     let read = rw kept.keeps.same_folder at c.read_text-read.ensures.end in
     let last = rw kept.keeps.same_folder at c.read_text-read.ensures.at in
-    task_verdict P (Rose m0 m2) t folder left at o c.reading_verdict.result (c.reading_verdict.ensures packages)
+    task_verdict P (CountRose m0 m2) t folder left at o c.reading_verdict.result (c.reading_verdict.ensures packages)
     (behind text folder (noted_at packages path folder left) n o ran read)
     (text_place packages path text folder at n c.read_text-read.result last)
-    (text_cause (Rose f1 f2) (Rose m1 m2) P (Rose m0 m2) o (λ r. inr (rose_later f0 f1 f2 kept.keeps.later r))
+    (text_cause (CountRose f1 f2) (CountRose m1 m2) P (CountRose m0 m2) o
+    (λ r. inr (rose_later f0 f1 f2 kept.keeps.later r))
     (rose_later m0 m1 m2 kept.keeps.later_misses) c.read_text-read.ensures.cause)
     (text_last path text folder at o last)
 
@@ -61,7 +62,7 @@ returns-clause-verdict g c =
     let f = g.F.Source.faults c.args.files.now in
     let h = g.F.Source.faults c.run_noted.new.files in
     let P : Type 0 = FailedAt path i j f h in
-    let Q : Type 0 = Rose (g.F.Source.misses c.args.files.now) (g.F.Source.misses c.run_noted.new.files) in
+    let Q : Type 0 = CountRose (g.F.Source.misses c.args.files.now) (g.F.Source.misses c.run_noted.new.files) in
     let s = c.run_noted.new.session in
     let o = end_at s.kernel c.in-Err.stop in
     let ended = subst (λ (r : Result NotedRun LinkFault). IfSome

@@ -3,7 +3,7 @@ use Rattle.std.proofs.Common.{◌-◌, ap, ◌∙◌, arith}
 use Rattle.std.proofs.lemmas.List.{take_all}
 use Rattle.ot_read.proofs.Filling.{line_of, lines_are, past, past-end}
 use Rattle.ot_read.proofs.printing.sequents_text.Goals as goal
-use Rattle.ot_plain.proofs.Results.{same_Err}
+use Rattle.ot_logic.proofs.Results.{same_Err}
 
 pub returns-in_err-plain_text-clause-too_large : goal.returns-in_err-plain_text-clause-too_large
 returns-in_err-plain_text-clause-too_large c = λ p.

@@ -1,14 +1,14 @@
 use Rattle.std.specs.Prelude.{IfOk}
 use Rattle.std.proofs.Common.{subst}
-use Rattle.ot_plain.specs.Names.{Name}
-use Rattle.ot_plain.specs.Trees.{Tm, Abs}
+use Rattle.ot_logic.specs.Names.{Name}
+use Rattle.ot_logic.specs.Trees.{Tm, Abs}
 use Rattle.ot_nodes.specs.Items.{IsTerm}
 use Rattle.ot_nodes.specs.declared.table.change.Change.TheVariants as change
 use Rattle.ot_nodes.proofs.ItemLemmas.{has-term, term-is, type-stays}
 use Rattle.ot_nodes.proofs.MapLemmas.{still-variable}
 use Rattle.ot_nodes.proofs.MapLemmas.{done-now}
 use Rattle.ot_rules.proofs.abstraction.abstracted.Goals as goal
-use Rattle.ot_plain.proofs.Results.{on_ok}
+use Rattle.ot_logic.proofs.Results.{on_ok}
 
 pub abs-requires-clause-body : goal.abs-requires-clause-body
 abs-requires-clause-body c = has-term c.closed.new.nodes c.in_ok-body.body _ c.in_ok-body.ensures.ok

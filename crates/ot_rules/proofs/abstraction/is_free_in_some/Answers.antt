@@ -1,8 +1,8 @@
 use Rattle.std.specs.Prelude.{◌||◌}
 use Rattle.std.proofs.Common.{◌≡◌, ◌+◌, drop, sym, ap, ◌∙◌, subst}
-use Rattle.ot_plain.specs.Naming.{names}
-use Rattle.ot_plain.specs.Hol.{is_free, is_free_in_some}
-use Rattle.ot_plain.proofs.TableLemmas.{Extends-trans}
+use Rattle.ot_logic.specs.Naming.{names}
+use Rattle.ot_logic.specs.Hol.{is_free, is_free_in_some}
+use Rattle.ot_logic.proofs.TableLemmas.{Extends-trans}
 use Rattle.ot_nodes.specs.Items.{HasTerm, term_at}
 use Rattle.ot_nodes.specs.Changing.{variable_at}
 use Rattle.ot_nodes.proofs.ItemLemmas.{still-term, term-stays}

@@ -1,7 +1,7 @@
 use Rattle.std.proofs.Common.{◌≡◌, drop}
-use Rattle.ot_plain.specs.Naming.{names}
-use Rattle.ot_plain.specs.Hol.{is_free_in_some}
-use Rattle.ot_plain.specs.Table.{Extends}
+use Rattle.ot_logic.specs.Naming.{names}
+use Rattle.ot_logic.specs.Hol.{is_free_in_some}
+use Rattle.ot_logic.specs.Table.{Extends}
 use Rattle.ot_nodes.specs.Changing.{Closing, variable_at, HasVariable, IsDone}
 use Rattle.ot_rules.specs.Statements.{terms_at}
 use Rattle.ot_rules.proofs.abstraction.is_free_in_some.Given as goal

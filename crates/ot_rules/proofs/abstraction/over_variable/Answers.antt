@@ -1,9 +1,9 @@
 use Rattle.std.proofs.Common.{ℕ, List, ap, subst, refl, ◌∙◌}
-use Rattle.ot_plain.specs.Names.{Name}
-use Rattle.ot_plain.specs.Naming.{names}
-use Rattle.ot_plain.specs.Trees.{Tm, Abs}
-use Rattle.ot_plain.specs.Hol.{fun_ty, close, equation, is_free_in_some}
-use Rattle.ot_plain.proofs.TableLemmas.{Extends-trans}
+use Rattle.ot_logic.specs.Names.{Name}
+use Rattle.ot_logic.specs.Naming.{names}
+use Rattle.ot_logic.specs.Trees.{Tm, Abs}
+use Rattle.ot_logic.specs.Hol.{fun_ty, close, equation, is_free_in_some}
+use Rattle.ot_logic.proofs.TableLemmas.{Extends-trans}
 use Rattle.ot_nodes.specs.Items.{IsTerm}
 use Rattle.ot_nodes.specs.Changing.{variable_at}
 use Rattle.ot_nodes.proofs.ItemLemmas.{type-stays, term-stays, still-type, still-term}

@@ -1,7 +1,7 @@
 use Rattle.std.specs.List.{All}
 use Rattle.std.proofs.Common.{map, subst, sym, ap, ◌∙◌}
-use Rattle.ot_plain.specs.Naming.{names}
-use Rattle.ot_plain.specs.Hol.{symbols_of}
+use Rattle.ot_logic.specs.Naming.{names}
+use Rattle.ot_logic.specs.Hol.{symbols_of}
 use Rattle.ot_records.specs.Steps.{all_defined, all_used}
 use Rattle.ot_rules.specs.Statements.{sequent_at}
 use Rattle.ot_rules.specs.Symbols.{IsSymbolMark, symbol_of, are_fresh}

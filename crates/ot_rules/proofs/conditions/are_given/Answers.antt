@@ -1,7 +1,7 @@
 use Rattle.std.specs.List.{list_all}
 use Rattle.std.proofs.Common.{◌+◌, ◌&&◌, map, drop, sym, ap, subst, ◌∙◌, arith}
 use Rattle.std.proofs.lemmas.List.{drop_all}
-use Rattle.ot_plain.specs.Naming.{names}
+use Rattle.ot_logic.specs.Naming.{names}
 use Rattle.ot_laws.specs.Conditions.{is_closed_but}
 use Rattle.ot_nodes.specs.Items.{term_at}
 use Rattle.ot_nodes.specs.Changing.{variable_at}

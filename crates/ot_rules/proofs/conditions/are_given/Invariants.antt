@@ -1,6 +1,6 @@
 use Rattle.std.specs.List.{list_all}
 use Rattle.std.proofs.Common.{◌≡◌, drop}
-use Rattle.ot_plain.specs.Naming.{names}
+use Rattle.ot_logic.specs.Naming.{names}
 use Rattle.ot_rules.specs.Conditions.{given_terms, may_be_given}
 use Rattle.ot_rules.proofs.conditions.are_given.Given as goal
 

@@ -1,5 +1,5 @@
-use Rattle.ot_plain.specs.Naming.{names}
-use Rattle.ot_plain.specs.Hol.{symbols_of}
+use Rattle.ot_logic.specs.Naming.{names}
+use Rattle.ot_logic.specs.Hol.{symbols_of}
 use Rattle.ot_rules.specs.Statements.{sequent_at}
 use Rattle.ot_rules.proofs.Freshness.{symbols-in_sequent}
 use Rattle.ot_rules.proofs.conditions.are_symbols_fresh.Goals as goal

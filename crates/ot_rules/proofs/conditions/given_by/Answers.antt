@@ -1,5 +1,5 @@
 use Rattle.std.proofs.Common.{if◌then◌else◌, [], ◌∷◌, ap, ◌∙◌}
-use Rattle.ot_plain.specs.Naming.{names}
+use Rattle.ot_logic.specs.Naming.{names}
 use Rattle.ot_laws.specs.Conditions.{given_by}
 use Rattle.ot_nodes.specs.Items.{term_at}
 use Rattle.ot_nodes.specs.Changing.{variable_at}

@@ -1,7 +1,7 @@
 use Rattle.std.proofs.Common.{subst, sym, ap, ◌∙◌}
-use Rattle.ot_plain.specs.Naming.{names}
-use Rattle.ot_plain.specs.Trees.{Free}
-use Rattle.ot_plain.specs.Hol.{same_tm}
+use Rattle.ot_logic.specs.Naming.{names}
+use Rattle.ot_logic.specs.Trees.{Free}
+use Rattle.ot_logic.specs.Hol.{same_tm}
 use Rattle.ot_nodes.specs.Table.{term_tree, HasTermParts}
 use Rattle.ot_nodes.specs.Changing.{variable_at}
 use Rattle.ot_nodes.proofs.MapLemmas.{same-variables}

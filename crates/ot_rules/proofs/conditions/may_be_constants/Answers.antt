@@ -1,6 +1,6 @@
 use Rattle.std.specs.List.{All}
 use Rattle.std.proofs.Common.{map, subst, sym, ap, ◌∙◌}
-use Rattle.ot_plain.specs.Naming.{names}
+use Rattle.ot_logic.specs.Naming.{names}
 use Rattle.ot_laws.specs.Conditions.{checked_list}
 use Rattle.ot_records.specs.Steps.{all_defined, all_used}
 use Rattle.ot_nodes.specs.Items.{HasName}

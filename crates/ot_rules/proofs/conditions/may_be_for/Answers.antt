@@ -3,8 +3,8 @@ use Rattle.std.specs.Option.{option_map}
 use Rattle.std.specs.Prelude.{◌==◌}
 use Rattle.std.proofs.Common.{ℕ, List, ◌&&◌, length, map, subst, sym, ap, ◌∙◌}
 use Rattle.std.proofs.lemmas.List.{length-map}
-use Rattle.ot_plain.specs.Naming.{names}
-use Rattle.ot_plain.specs.Hol.{same_var}
+use Rattle.ot_logic.specs.Naming.{names}
+use Rattle.ot_logic.specs.Hol.{same_var}
 use Rattle.ot_laws.specs.Conditions.{are_distinct, is_closed_but, terms_given}
 use Rattle.ot_records.specs.Steps.{all_defined, all_used}
 use Rattle.ot_nodes.specs.Items.{term_at}

@@ -1,6 +1,6 @@
 use Rattle.std.proofs.Common.{ℕ, List, length, ◌&&◌, nat_eq, sym, ap, ◌∙◌, [], ◌∷◌}
 use Rattle.std.proofs.lemmas.List.Elements.{All-nil, All-cons}
-use Rattle.ot_plain.specs.Naming.{names}
+use Rattle.ot_logic.specs.Naming.{names}
 use Rattle.ot_laws.specs.Conditions.{function_of}
 use Rattle.ot_records.specs.Steps.{all_defined, all_used}
 use Rattle.ot_nodes.specs.Items.{name_at, term_at}

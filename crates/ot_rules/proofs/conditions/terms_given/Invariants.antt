@@ -1,7 +1,7 @@
 use Rattle.std.specs.List.{All}
 use Rattle.std.specs.Option.{option_map}
 use Rattle.std.proofs.Common.{◌≡◌, ◌++◌, map, drop}
-use Rattle.ot_plain.specs.Naming.{names}
+use Rattle.ot_logic.specs.Naming.{names}
 use Rattle.ot_laws.specs.Conditions.{terms_given}
 use Rattle.ot_nodes.specs.Changing.{variable_at}
 use Rattle.ot_rules.specs.Statements.{terms_at}

@@ -1,10 +1,10 @@
 use Rattle.std.specs.Prelude.{IfOk}
 use Rattle.std.proofs.Common.{subst, ◌∙◌}
-use Rattle.ot_plain.specs.Names.{Name}
-use Rattle.ot_plain.specs.Naming.{names}
-use Rattle.ot_plain.specs.Trees.{Tm, App, Abs}
-use Rattle.ot_plain.specs.Hol.{fun_ty, equation}
-use Rattle.ot_plain.proofs.TableLemmas.{Extends-trans}
+use Rattle.ot_logic.specs.Names.{Name}
+use Rattle.ot_logic.specs.Naming.{names}
+use Rattle.ot_logic.specs.Trees.{Tm, App, Abs}
+use Rattle.ot_logic.specs.Hol.{fun_ty, equation}
+use Rattle.ot_logic.proofs.TableLemmas.{Extends-trans}
 use Rattle.ot_nodes.specs.Items.{IsTerm}
 use Rattle.ot_nodes.proofs.ItemLemmas.{has-type, has-term, type-is, term-is}
 use Rattle.ot_nodes.proofs.ItemLemmas.{type-stays, term-stays, still-type, still-term}

@@ -1,9 +1,9 @@
 use Rattle.std.specs.List.{All}
 use Rattle.std.proofs.Common.{[], map, subst, sym, ap, ◌∙◌}
-use Rattle.ot_plain.specs.Names.{Name}
-use Rattle.ot_plain.specs.Naming.{names}
-use Rattle.ot_plain.specs.Trees.{Tm, Con}
-use Rattle.ot_plain.specs.Hol.{type_in, equation}
+use Rattle.ot_logic.specs.Names.{Name}
+use Rattle.ot_logic.specs.Naming.{names}
+use Rattle.ot_logic.specs.Trees.{Tm, Con}
+use Rattle.ot_logic.specs.Hol.{type_in, equation}
 use Rattle.ot_laws.specs.Conditions.{checked_const}
 use Rattle.ot_records.specs.Steps.{all_defined, all_used}
 use Rattle.ot_nodes.specs.Items.{IsTerm, name_at, type_at, term_at}
@@ -11,7 +11,7 @@ use Rattle.ot_nodes.specs.Typing.{IsTyping}
 use Rattle.ot_nodes.proofs.ItemLemmas.{has-term, term-is, name-stays, type-stays}
 use Rattle.ot_nodes.proofs.ItemLemmas.{term-stays, still-name, still-type, still-term}
 use Rattle.ot_nodes.proofs.TypingLemmas.{typings-grown}
-use Rattle.ot_plain.proofs.TableLemmas.{Extends-trans}
+use Rattle.ot_logic.proofs.TableLemmas.{Extends-trans}
 use Rattle.ot_rules.specs.Statements.{sequent_at, HasStatement}
 use Rattle.ot_rules.specs.Symbols.{passes}
 use Rattle.ot_rules.proofs.Cases.{no-typing, well-typed, concluding}

@@ -1,7 +1,7 @@
 use Rattle.std.specs.Prelude.{IfOk}
 use Rattle.std.proofs.Common.{subst}
-use Rattle.ot_plain.specs.Names.{Name}
-use Rattle.ot_plain.specs.Trees.{Tm, Con}
+use Rattle.ot_logic.specs.Names.{Name}
+use Rattle.ot_logic.specs.Trees.{Tm, Con}
 use Rattle.ot_nodes.specs.Items.{IsTerm}
 use Rattle.ot_nodes.proofs.ItemLemmas.{name-stays, type-is}
 use Rattle.ot_rules.proofs.defining.constant_between.Goals as goal

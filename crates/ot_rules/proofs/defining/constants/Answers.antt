@@ -1,9 +1,9 @@
 use Rattle.std.specs.List.{All}
 use Rattle.std.proofs.Common.{ℕ, List, [], ◌∷◌, map, subst, sym, ap, ◌∙◌}
 use Rattle.std.proofs.lemmas.List.Elements.{All-nil}
-use Rattle.ot_plain.specs.Naming.{names}
-use Rattle.ot_plain.specs.Hol.{subst_tm, constants_for, sequent_of}
-use Rattle.ot_plain.proofs.TableLemmas.{Extends-trans}
+use Rattle.ot_logic.specs.Naming.{names}
+use Rattle.ot_logic.specs.Hol.{subst_tm, constants_for, sequent_of}
+use Rattle.ot_logic.proofs.TableLemmas.{Extends-trans}
 use Rattle.ot_nodes.specs.Items.{HasName, HasType, term_at}
 use Rattle.ot_nodes.specs.Changing.{HasTypes, HasTerms}
 use Rattle.ot_nodes.specs.declared.node.VariableNode.{VariableNode}

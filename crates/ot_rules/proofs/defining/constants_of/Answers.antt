@@ -1,7 +1,7 @@
 use Rattle.std.specs.List.{All}
 use Rattle.std.proofs.Common.{ℕ, subst, sym}
 use Rattle.std.proofs.lemmas.List.Elements.{All-push}
-use Rattle.ot_plain.proofs.TableLemmas.{Extends-trans}
+use Rattle.ot_logic.proofs.TableLemmas.{Extends-trans}
 use Rattle.ot_nodes.specs.Items.{HasName, HasTerm}
 use Rattle.ot_nodes.specs.Changing.{HasVariable}
 use Rattle.ot_nodes.specs.declared.node.VariableNode.{VariableNode}

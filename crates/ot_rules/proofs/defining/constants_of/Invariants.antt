@@ -1,7 +1,7 @@
 use Rattle.std.proofs.Common.{◌≡◌, take}
-use Rattle.ot_plain.specs.Naming.{names}
-use Rattle.ot_plain.specs.Hol.{constants_for}
-use Rattle.ot_plain.specs.Table.{Extends}
+use Rattle.ot_logic.specs.Naming.{names}
+use Rattle.ot_logic.specs.Hol.{constants_for}
+use Rattle.ot_logic.specs.Table.{Extends}
 use Rattle.ot_nodes.specs.Changing.{HasTerms, term_map}
 use Rattle.ot_rules.specs.Definitions.{pairs_at}
 use Rattle.ot_rules.proofs.defining.constants_of.Given as goal

@@ -1,8 +1,8 @@
 use Rattle.std.specs.Prelude.{IfOk}
 use Rattle.std.specs.List.{All}
 use Rattle.std.proofs.Common.{subst, sym, ap, ◌∙◌}
-use Rattle.ot_plain.specs.Names.{Name}
-use Rattle.ot_plain.specs.Trees.{Ty, TyOp}
+use Rattle.ot_logic.specs.Names.{Name}
+use Rattle.ot_logic.specs.Trees.{Ty, TyOp}
 use Rattle.ot_nodes.specs.Items.{IsType, HasType, types_at}
 use Rattle.ot_nodes.proofs.ItemLemmas.{name-stays, still-name}
 use Rattle.ot_rules.proofs.defining.operator_over.Goals as goal

@@ -1,7 +1,7 @@
 use Rattle.std.proofs.Common.{[], sym, subst, ◌∙◌}
-use Rattle.ot_plain.specs.Naming.{names}
-use Rattle.ot_plain.specs.Trees.{TyOp}
-use Rattle.ot_plain.specs.Hol.{tys_of_vars, type_theorems}
+use Rattle.ot_logic.specs.Naming.{names}
+use Rattle.ot_logic.specs.Trees.{TyOp}
+use Rattle.ot_logic.specs.Hol.{tys_of_vars, type_theorems}
 use Rattle.ot_nodes.specs.Items.{name_at, type_at, term_at}
 use Rattle.ot_nodes.specs.Typing.{IsTyping}
 use Rattle.ot_nodes.proofs.ItemLemmas.{name-stays, term-stays, still-name, still-term}

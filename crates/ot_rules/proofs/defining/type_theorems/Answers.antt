@@ -1,11 +1,11 @@
 use Rattle.std.specs.List.{All}
 use Rattle.std.proofs.Common.{[], ◌∷◌, map, subst, sym, ap, ◌∙◌}
 use Rattle.std.proofs.lemmas.List.Elements.{All-nil, All-cons}
-use Rattle.ot_plain.specs.Names.{Name}
-use Rattle.ot_plain.specs.Naming.{names}
-use Rattle.ot_plain.specs.Trees.{Tm, Con, Bound, App, Abs}
-use Rattle.ot_plain.specs.Hol.{fun_ty, bool_ty, equation}
-use Rattle.ot_plain.proofs.TableLemmas.{Extends-trans}
+use Rattle.ot_logic.specs.Names.{Name}
+use Rattle.ot_logic.specs.Naming.{names}
+use Rattle.ot_logic.specs.Trees.{Tm, Con, Bound, App, Abs}
+use Rattle.ot_logic.specs.Hol.{fun_ty, bool_ty, equation}
+use Rattle.ot_logic.proofs.TableLemmas.{Extends-trans}
 use Rattle.ot_nodes.specs.Items.{IsTerm}
 use Rattle.ot_nodes.proofs.ItemLemmas.{has-type, has-term, type-is, term-is, name-stays}
 use Rattle.ot_nodes.proofs.ItemLemmas.{type-stays, term-stays, still-name, still-type, still-term}

@@ -1,8 +1,8 @@
 use Rattle.std.specs.List.{All}
 use Rattle.std.proofs.Common.{◌≡◌, take}
-use Rattle.ot_plain.specs.Naming.{names}
-use Rattle.ot_plain.specs.Hol.{tys_of_vars}
-use Rattle.ot_plain.specs.Table.{Extends}
+use Rattle.ot_logic.specs.Naming.{names}
+use Rattle.ot_logic.specs.Hol.{tys_of_vars}
+use Rattle.ot_logic.specs.Table.{Extends}
 use Rattle.ot_nodes.specs.Items.{HasType, types_at}
 use Rattle.ot_rules.specs.Definitions.{names_at}
 use Rattle.ot_rules.proofs.defining.type_vars.Given as goal

@@ -1,8 +1,8 @@
 use Rattle.std.specs.List.{list_all}
 use Rattle.std.specs.Prelude.{◌&&◌}
 use Rattle.std.proofs.Common.{◌+◌, drop, sym, ap, ◌∙◌, subst}
-use Rattle.ot_plain.specs.Naming.{names}
-use Rattle.ot_plain.proofs.TableLemmas.{Extends-trans}
+use Rattle.ot_logic.specs.Naming.{names}
+use Rattle.ot_logic.proofs.TableLemmas.{Extends-trans}
 use Rattle.ot_records.specs.Steps.{is_proposition}
 use Rattle.ot_nodes.specs.Items.{HasTerm}
 use Rattle.ot_nodes.proofs.ItemLemmas.{still-term, term-stays}

@@ -1,7 +1,7 @@
 use Rattle.std.specs.List.{list_all}
 use Rattle.std.proofs.Common.{◌≡◌, drop}
-use Rattle.ot_plain.specs.Naming.{names}
-use Rattle.ot_plain.specs.Table.{Extends}
+use Rattle.ot_logic.specs.Naming.{names}
+use Rattle.ot_logic.specs.Table.{Extends}
 use Rattle.ot_records.specs.Steps.{is_proposition}
 use Rattle.ot_nodes.specs.Typing.{AreTypings}
 use Rattle.ot_rules.specs.Statements.{terms_at}

@@ -1,8 +1,8 @@
 use Rattle.std.specs.List.{All, list_all}
 use Rattle.std.proofs.Common.{Ok, ◌&&◌, subst, sym, ap, ◌∙◌}
-use Rattle.ot_plain.specs.Naming.{names}
-use Rattle.ot_plain.specs.Hol.{once_each}
-use Rattle.ot_plain.proofs.TableLemmas.{Extends-trans}
+use Rattle.ot_logic.specs.Naming.{names}
+use Rattle.ot_logic.specs.Hol.{once_each}
+use Rattle.ot_logic.proofs.TableLemmas.{Extends-trans}
 use Rattle.ot_records.specs.Steps.{is_proposition}
 use Rattle.ot_nodes.specs.Items.{HasTerm, term_at}
 use Rattle.ot_nodes.proofs.ItemLemmas.{term-stays, still-term}

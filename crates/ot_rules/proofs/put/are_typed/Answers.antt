@@ -1,11 +1,11 @@
 use Rattle.std.specs.Prelude.{◌&&◌}
 use Rattle.std.specs.List.{list_all}
 use Rattle.std.proofs.Common.{ℕ, ◌+◌, Bool, drop, sym, ap, ◌∙◌, subst}
-use Rattle.ot_plain.specs.Names.{Name}
-use Rattle.ot_plain.specs.Naming.{names}
-use Rattle.ot_plain.specs.Trees.{Tm, Variable}
-use Rattle.ot_plain.specs.Rules.{has_type}
-use Rattle.ot_plain.proofs.TableLemmas.{Extends-trans}
+use Rattle.ot_logic.specs.Names.{Name}
+use Rattle.ot_logic.specs.Naming.{names}
+use Rattle.ot_logic.specs.Trees.{Tm, Variable}
+use Rattle.ot_logic.specs.Rules.{has_type}
+use Rattle.ot_logic.proofs.TableLemmas.{Extends-trans}
 use Rattle.ot_nodes.specs.Items.{HasTerm, term_at}
 use Rattle.ot_nodes.specs.Changing.{variable_at, term_map, HasVariable}
 use Rattle.ot_nodes.specs.declared.node.VariableNode.{VariableNode}

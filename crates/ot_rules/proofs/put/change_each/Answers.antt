@@ -2,7 +2,7 @@ use Rattle.std.specs.List.{All}
 use Rattle.std.proofs.Common.{subst, sym, ap, map, ◌∙◌, arith}
 use Rattle.std.proofs.lemmas.List.{take_all}
 use Rattle.std.proofs.lemmas.List.Elements.{All-push}
-use Rattle.ot_plain.proofs.TableLemmas.{Extends-trans}
+use Rattle.ot_logic.proofs.TableLemmas.{Extends-trans}
 use Rattle.ot_nodes.specs.Items.{HasTerm}
 use Rattle.ot_nodes.specs.Changing.{changed, changing}
 use Rattle.ot_nodes.proofs.ItemLemmas.{has-term, still-term}

@@ -1,6 +1,6 @@
 use Rattle.std.specs.List.{All}
 use Rattle.std.proofs.Common.{◌≡◌, map, take}
-use Rattle.ot_plain.specs.Table.{Extends}
+use Rattle.ot_logic.specs.Table.{Extends}
 use Rattle.ot_nodes.specs.Items.{HasTerm}
 use Rattle.ot_nodes.specs.Changing.{changed, changing, HasChange, IsDone}
 use Rattle.ot_rules.specs.Statements.{terms_at}

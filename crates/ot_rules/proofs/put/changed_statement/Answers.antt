@@ -1,8 +1,8 @@
 use Rattle.std.specs.List.{All}
 use Rattle.std.proofs.Common.{map, subst, sym, ap, ◌∙◌}
-use Rattle.ot_plain.specs.Naming.{names}
-use Rattle.ot_plain.specs.Hol.{once_each}
-use Rattle.ot_plain.proofs.TableLemmas.{Extends-trans}
+use Rattle.ot_logic.specs.Naming.{names}
+use Rattle.ot_logic.specs.Hol.{once_each}
+use Rattle.ot_logic.proofs.TableLemmas.{Extends-trans}
 use Rattle.ot_nodes.specs.Items.{HasTerm}
 use Rattle.ot_nodes.specs.Changing.{changed, changing}
 use Rattle.ot_nodes.proofs.ItemLemmas.{has-term, term-is, term-stays, still-term}

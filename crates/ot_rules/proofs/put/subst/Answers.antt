@@ -1,8 +1,8 @@
 use Rattle.std.specs.List.{list_all}
 use Rattle.std.proofs.Common.{ℕ, List, subst, sym, ap, ◌∙◌}
 use Rattle.std.proofs.lemmas.Bool.Decides.{Decides-eqb}
-use Rattle.ot_plain.specs.Naming.{names}
-use Rattle.ot_plain.specs.Rules.{has_type}
+use Rattle.ot_logic.specs.Naming.{names}
+use Rattle.ot_logic.specs.Rules.{has_type}
 use Rattle.ot_nodes.specs.Changing.{term_map, HasTypes, HasTerms}
 use Rattle.ot_nodes.specs.declared.node.VariableNode.{VariableNode}
 use Rattle.ot_nodes.proofs.MapLemmas.{variable_eq, still-types_of, still-terms_of}

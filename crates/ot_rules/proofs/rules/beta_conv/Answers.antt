@@ -1,9 +1,9 @@
 use Rattle.std.proofs.Common.{[], subst, ◌∙◌}
-use Rattle.ot_plain.specs.Names.{Name}
-use Rattle.ot_plain.specs.Naming.{names}
-use Rattle.ot_plain.specs.Trees.{Tm}
-use Rattle.ot_plain.specs.Hol.{equation, opened}
-use Rattle.ot_plain.proofs.TableLemmas.{Extends-trans}
+use Rattle.ot_logic.specs.Names.{Name}
+use Rattle.ot_logic.specs.Naming.{names}
+use Rattle.ot_logic.specs.Trees.{Tm}
+use Rattle.ot_logic.specs.Hol.{equation, opened}
+use Rattle.ot_logic.proofs.TableLemmas.{Extends-trans}
 use Rattle.ot_nodes.specs.Items.{IsTerm, term_at}
 use Rattle.ot_nodes.specs.Typing.{IsTyping}
 use Rattle.ot_nodes.proofs.ItemLemmas.{has-term, term-is, type-stays, term-stays, still-type, still-term}

@@ -1,8 +1,8 @@
 use Rattle.std.proofs.Common.{[], subst}
-use Rattle.ot_plain.specs.Names.{Name}
-use Rattle.ot_plain.specs.Naming.{names}
-use Rattle.ot_plain.specs.Trees.{Tm}
-use Rattle.ot_plain.specs.Hol.{equation}
+use Rattle.ot_logic.specs.Names.{Name}
+use Rattle.ot_logic.specs.Naming.{names}
+use Rattle.ot_logic.specs.Trees.{Tm}
+use Rattle.ot_logic.specs.Hol.{equation}
 use Rattle.ot_nodes.specs.Items.{IsTerm, type_at, term_at}
 use Rattle.ot_nodes.specs.Typing.{IsTyping}
 use Rattle.ot_nodes.proofs.ItemLemmas.{has-term, term-stays}

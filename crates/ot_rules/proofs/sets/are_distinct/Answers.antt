@@ -1,6 +1,6 @@
 use Rattle.std.proofs.Common.{nat_eq, length, fold, ap, ◌∙◌}
 use Rattle.indexmap.specs.IndexSet.{insert_key}
-use Rattle.ot_plain.specs.Naming.{numbers}
+use Rattle.ot_logic.specs.Naming.{numbers}
 use Rattle.ot_laws.proofs.Hashed.{distinct-count}
 use Rattle.ot_rules.proofs.sets.are_distinct.Goals as goal
 

@@ -1,7 +1,7 @@
 use Rattle.std.specs.Prelude.{None, Option, MatchOption}
 use Rattle.std.proofs.Common.{◌≡◌, sym, subst}
-use Rattle.ot_plain.specs.Naming.{names}
-use Rattle.ot_plain.specs.Hol.{as_equation}
+use Rattle.ot_logic.specs.Naming.{names}
+use Rattle.ot_logic.specs.Hol.{as_equation}
 use Rattle.ot_nodes.specs.Items.{term_at}
 use Rattle.ot_rules.specs.Shapes.{AreSides}
 use Rattle.ot_rules.specs.declared.shapes.Sides.{Sides}

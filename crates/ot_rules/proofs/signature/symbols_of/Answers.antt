@@ -2,8 +2,8 @@ use Rattle.std.specs.List.{All}
 use Rattle.std.proofs.Common.{ℕ, map, subst, sym, ap, ◌∙◌}
 use Rattle.std.proofs.lemmas.Result.{IfOk-weaker}
 use Rattle.ot_nodes.specs.declared.node.VariableNode.{VariableNode}
-use Rattle.ot_plain.specs.Naming.{names}
-use Rattle.ot_plain.specs.Hol.{defined}
+use Rattle.ot_logic.specs.Naming.{names}
+use Rattle.ot_logic.specs.Hol.{defined}
 use Rattle.ot_rules.specs.Definitions.{definition_at, HasDefinition}
 use Rattle.ot_rules.specs.declared.definition.Definition.{Definition}
 use Rattle.ot_rules.specs.Symbols.{IsSymbolMark, symbol_of}

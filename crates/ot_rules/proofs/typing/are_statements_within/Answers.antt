@@ -1,8 +1,8 @@
 use Rattle.std.specs.Prelude.{◌&&◌}
 use Rattle.std.specs.List.{list_all}
 use Rattle.std.proofs.Common.{◌+◌, map, drop, sym, ap, ◌∙◌, subst}
-use Rattle.ot_plain.specs.Naming.{names}
-use Rattle.ot_plain.proofs.TableLemmas.{Extends-trans}
+use Rattle.ot_logic.specs.Naming.{names}
+use Rattle.ot_logic.proofs.TableLemmas.{Extends-trans}
 use Rattle.ot_records.specs.Steps.{is_sequent_within}
 use Rattle.ot_rules.specs.Limits.{AreWellTyped}
 use Rattle.ot_rules.specs.Statements.{sequent_at, HasStatement}

@@ -1,9 +1,9 @@
 use Rattle.std.specs.List.{list_all}
 use Rattle.std.specs.Prelude.{◌&&◌}
 use Rattle.std.proofs.Common.{◌+◌, drop, sym, ap, ◌∙◌, subst}
-use Rattle.ot_plain.specs.Naming.{names}
-use Rattle.ot_plain.specs.Hol.{IsWellTyped}
-use Rattle.ot_plain.proofs.TableLemmas.{Extends-trans}
+use Rattle.ot_logic.specs.Naming.{names}
+use Rattle.ot_logic.specs.Hol.{IsWellTyped}
+use Rattle.ot_logic.proofs.TableLemmas.{Extends-trans}
 use Rattle.ot_records.specs.Steps.{is_within}
 use Rattle.ot_nodes.specs.Items.{HasTerm, term_at}
 use Rattle.ot_nodes.proofs.ItemLemmas.{still-term, term-stays}

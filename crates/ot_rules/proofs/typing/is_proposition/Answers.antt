@@ -1,6 +1,6 @@
 use Rattle.std.proofs.Common.{[], subst, sym, ◌∙◌}
-use Rattle.ot_plain.specs.Naming.{names}
-use Rattle.ot_plain.specs.Hol.{same_ty, bool_ty}
+use Rattle.ot_logic.specs.Naming.{names}
+use Rattle.ot_logic.specs.Hol.{same_ty, bool_ty}
 use Rattle.ot_laws.proofs.Tests.{tells_names, same_ty-is}
 use Rattle.ot_nodes.specs.Items.{type_at, term_at}
 use Rattle.ot_nodes.specs.Typing.{IsTyping}

@@ -1,8 +1,8 @@
 use Rattle.std.specs.Prelude.{IfOk, ◌&&◌}
 use Rattle.std.specs.List.{All, list_all}
 use Rattle.std.proofs.Common.{◌≡◌, ℕ, Bool, List, sym, ap, ◌∙◌, subst}
-use Rattle.ot_plain.specs.Naming.{names}
-use Rattle.ot_plain.specs.Hol.{IsWellTyped}
+use Rattle.ot_logic.specs.Naming.{names}
+use Rattle.ot_logic.specs.Hol.{IsWellTyped}
 use Rattle.ot_records.specs.Steps.{is_within}
 use Rattle.ot_nodes.specs.Items.{term_at}
 use Rattle.ot_nodes.proofs.ItemLemmas.{still-term, term-stays}

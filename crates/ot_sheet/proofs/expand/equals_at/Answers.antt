@@ -1,6 +1,6 @@
 use Rattle.std.proofs.Common.{Some, ap, ◌∙◌}
 use Rattle.std.proofs.lemmas.Result.{IfOk-weaker}
-use Rattle.ot_plain.proofs.TableLemmas.{Extends-trans}
+use Rattle.ot_logic.proofs.TableLemmas.{Extends-trans}
 use Rattle.ot_nodes.specs.Items.{TermItem}
 use Rattle.ot_nodes.proofs.ItemLemmas.{has-type}
 use Rattle.ot_nodes.proofs.ShapeLemmas.{has-equals}

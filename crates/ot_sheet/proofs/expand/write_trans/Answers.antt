@@ -1,6 +1,6 @@
 use Rattle.std.proofs.Common.{◌∙◌}
-use Rattle.ot_plain.specs.Trees.{App}
-use Rattle.ot_plain.proofs.TableLemmas.{Extends-trans}
+use Rattle.ot_logic.specs.Trees.{App}
+use Rattle.ot_logic.proofs.TableLemmas.{Extends-trans}
 use Rattle.ot_records.specs.declared.word.RecordWord.TheVariants as words
 use Rattle.ot_nodes.specs.Items.{type_at, term_at}
 use Rattle.ot_nodes.proofs.ItemLemmas.{term-is, term-stays}

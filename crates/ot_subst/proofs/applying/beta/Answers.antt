@@ -6,7 +6,7 @@ use Rattle.ot_subst.proofs.Growing.{IsLater-refl}
 use Rattle.ot_subst.proofs.Redex.{one_pair, not-app, one_step, not-abs, two_steps}
 use Rattle.ot_subst.proofs.Redex.{is_redex, same-redex, redex-subst, redex-steps}
 use Rattle.ot_subst.proofs.applying.beta.Goals as goal
-use Rattle.ot_plain.proofs.Results.{same_Err}
+use Rattle.ot_logic.proofs.Results.{same_Err}
 
 differ : {X : Type 0} → ◌≡◌ {A = Result X SubstFault} (Err NotRedex) (Err Nesting) → ⊥
 differ e = cc
@@ -60,16 +60,16 @@ returns-in_err-insert-clause-steps g c h = two_steps (g.N.Nodes.table c.args.ter
     c.requires.inside c.in-App.f c.in-App.x c.in-App.ensures.below.0 c.in-App.ensures.tree c.args.steps.now
     c.take-2.new.steps (omega (arith, c.take.ensures.counted, c.take-2.ensures.counted))
 
-pub put_in-requires-clause-subst : goal.put_in-requires-clause-subst
-put_in-requires-clause-subst g c = redex-subst (g.N.Nodes.table c.args.terms.now) c.take.ensures.table c.args.t
+pub substitute-requires-clause-subst : goal.substitute-requires-clause-subst
+substitute-requires-clause-subst g c = redex-subst (g.N.Nodes.table c.args.terms.now) c.take.ensures.table c.args.t
     c.requires.inside c.in-App.f c.in-App.x c.in-App.ensures.below.0 c.in-App.ensures.tree c.in-Abs.v c.in-Abs.body
     (omega (arith, c.in-App.ensures.below.1, c.requires.inside)) c.in-Abs.ensures.below.0 c.in-Abs.ensures.below.1
     c.in-Abs.ensures.tree c.insert.new.self
     (one_pair c.insert.new.self c.new-s.result c.new.result c.in-Abs.v c.in-App.x c.in_ok-insert.ensures.ok
     c.new-s.ensures.pairs c.new.ensures)
 
-pub returns-in_err-put_in-clause-nesting : goal.returns-in_err-put_in-clause-nesting
-returns-in_err-put_in-clause-nesting g c p = (
+pub returns-in_err-substitute-clause-nesting : goal.returns-in_err-substitute-clause-nesting
+returns-in_err-substitute-clause-nesting g c p = (
   _,
   is_redex (g.N.Nodes.table c.args.terms.now) c.take.ensures.table c.args.t c.requires.inside c.in-App.f
       c.in-App.x c.in-App.ensures.below.0 c.in-App.ensures.tree c.in-Abs.v c.in-Abs.body
@@ -77,20 +77,20 @@ returns-in_err-put_in-clause-nesting g c p = (
       c.in-Abs.ensures.tree c.insert.new.self
       (one_pair c.insert.new.self c.new-s.result c.new.result c.in-Abs.v c.in-App.x c.in_ok-insert.ensures.ok
       c.new-s.ensures.pairs c.new.ensures),
-  c.in_err-put_in.ensures.nesting
-      (ap Err (nesting-from c.in_err-put_in.field-0.0
-      (same_Err c.from_residual-in_err-put_in.result _ _ c.from_residual-in_err-put_in.ensures.1 p))),
+  c.in_err-substitute.ensures.nesting
+      (ap Err (nesting-from c.in_err-substitute.field-0.0
+      (same_Err c.from_residual-in_err-substitute.result _ _ c.from_residual-in_err-substitute.ensures.1 p))),
 )
 
-pub returns-in_err-put_in-clause-steps : goal.returns-in_err-put_in-clause-steps
-returns-in_err-put_in-clause-steps g c h =
+pub returns-in_err-substitute-clause-steps : goal.returns-in_err-substitute-clause-steps
+returns-in_err-substitute-clause-steps g c h =
     redex-steps (g.N.Nodes.table c.args.terms.now) c.take.ensures.table c.args.t c.requires.inside c.in-App.f
     c.in-App.x c.in-App.ensures.below.0 c.in-App.ensures.tree c.in-Abs.v c.in-Abs.body
     (omega (arith, c.in-App.ensures.below.1, c.requires.inside)) c.in-Abs.ensures.below.0 c.in-Abs.ensures.below.1
-    c.in-Abs.ensures.tree c.insert.new.self c.args.steps.now c.take-2.new.steps c.put_in.new.steps
+    c.in-Abs.ensures.tree c.insert.new.self c.args.steps.now c.take-2.new.steps c.substitute.new.steps
     (one_pair c.insert.new.self c.new-s.result c.new.result c.in-Abs.v c.in-App.x c.in_ok-insert.ensures.ok
     c.new-s.ensures.pairs c.new.ensures) (omega (arith, c.take.ensures.counted, c.take-2.ensures.counted))
-    c.in_err-put_in.ensures.counted h
+    c.in_err-substitute.ensures.counted h
 
 pub returns-clause-ok : goal.returns-clause-ok
 returns-clause-ok g c = (
@@ -101,14 +101,14 @@ returns-clause-ok g c = (
       c.in-Abs.ensures.tree c.insert.new.self
       (one_pair c.insert.new.self c.new-s.result c.new.result c.in-Abs.v c.in-App.x c.in_ok-insert.ensures.ok
       c.new-s.ensures.pairs c.new.ensures),
-  c.in_ok-put_in.ensures.ok,
+  c.in_ok-substitute.ensures.ok,
 )
 
 pub returns-clause-steps : goal.returns-clause-steps
 returns-clause-steps g c h = redex-steps (g.N.Nodes.table c.args.terms.now) c.take.ensures.table c.args.t
     c.requires.inside c.in-App.f c.in-App.x c.in-App.ensures.below.0 c.in-App.ensures.tree c.in-Abs.v c.in-Abs.body
     (omega (arith, c.in-App.ensures.below.1, c.requires.inside)) c.in-Abs.ensures.below.0 c.in-Abs.ensures.below.1
-    c.in-Abs.ensures.tree c.insert.new.self c.args.steps.now c.take-2.new.steps c.put_in.new.steps
+    c.in-Abs.ensures.tree c.insert.new.self c.args.steps.now c.take-2.new.steps c.substitute.new.steps
     (one_pair c.insert.new.self c.new-s.result c.new.result c.in-Abs.v c.in-App.x c.in_ok-insert.ensures.ok
     c.new-s.ensures.pairs c.new.ensures) (omega (arith, c.take.ensures.counted, c.take-2.ensures.counted))
-    c.in_ok-put_in.ensures.counted h
+    c.in_ok-substitute.ensures.counted h

@@ -1,11 +1,11 @@
 use Rattle.std.proofs.Common.{length, ◌<◌, sym, subst, arith, true≢false, inl, inr, ◌∙◌}
-use Rattle.ot_plain.specs.Lists.{IsMember}
+use Rattle.ot_logic.specs.Lists.{IsMember}
 use Rattle.ot_term.specs.declared.term.VarKey.{VarKey}
 use Rattle.ot_term.proofs.Growing.{grown_further}
 use Rattle.ot_subst.specs.Clash.{Coincides}
 use Rattle.ot_subst.proofs.Binders.{coincides-before, coincides-later, member-more}
 use Rattle.ot_subst.proofs.clash.any_coincides.Goals as goal
-use Rattle.ot_plain.proofs.Members.{IsMember-get_or, All-at_member}
+use Rattle.ot_logic.proofs.Members.{IsMember-get_or, All-at_member}
 
 pub returns-then-branch-clause-ok : goal.returns-then-branch-clause-ok
 returns-then-branch-clause-ok g c =

@@ -1,5 +1,5 @@
 use Rattle.std.specs.Prelude.{take}
-use Rattle.ot_plain.specs.Lists.{IsMember}
+use Rattle.ot_logic.specs.Lists.{IsMember}
 use Rattle.ot_term.specs.TermTable.{IsGrownTo}
 use Rattle.ot_term.specs.declared.term.VarKey.{VarKey}
 use Rattle.ot_subst.specs.Clash.{Coincides}

@@ -5,7 +5,7 @@ use Rattle.ot_subst.specs.Renamed.{pairs_of}
 use Rattle.ot_subst.proofs.Variables.{renamed-lookup, bound-lookup, becomes-renamed}
 use Rattle.ot_subst.proofs.Variables.{becomes-deep, becomes-found, becomes-kept}
 use Rattle.ot_subst.proofs.images.image_of.Goals as goal
-use Rattle.ot_plain.proofs.Results.{same_Err}
+use Rattle.ot_logic.proofs.Results.{same_Err}
 
 pub var-requires : goal.var-requires
 var-requires g c = renamed-lookup (g.N.Nodes.table c.args.terms.now) c.args.subst.now c.args.v c.in-Some.new

@@ -1,10 +1,11 @@
 use Rattle.std.proofs.Common.{◌≡◌, ℕ, suc, ◌+◌, ◌<◌, ◌≤◌, max, false, length}
 use Rattle.std.proofs.Common.{Err, IfOk, sym, ap, subst, ◌∙◌, arith}
-use Rattle.ot_plain.specs.Lists.{IsMember}
-use Rattle.ot_plain.specs.Trees.{Tm, Named, App}
-use Rattle.ot_plain.specs.Hol.{is_shallow, nameless}
-use Rattle.ot_plain.specs.Naming.{numbers}
-use Rattle.ot_plain.proofs.Results.{same_Err}
+use Rattle.ot_logic.specs.Lists.{IsMember}
+use Rattle.ot_logic.specs.Trees.{Tm, Named, App}
+use Rattle.ot_logic.specs.Hol.{is_shallow}
+use Rattle.ot_logic.specs.NamedTerms.{nameless}
+use Rattle.ot_logic.specs.Naming.{numbers}
+use Rattle.ot_logic.proofs.Results.{same_Err}
 use Rattle.ot_term.specs.Term.{TermTable}
 use Rattle.ot_term.specs.TermTable.{term_at, term_of, Grows}
 use Rattle.ot_term.specs.declared.term.TermNode.{TermNode}

@@ -3,7 +3,7 @@ use Rattle.std.proofs.Common.{ap, ◌∙◌, ◌++◌}
 use Rattle.ot_text.specs.Gathered.{texts_of}
 use Rattle.ot_text.proofs.Gathering.{one-kept, one-too_large, together-too_large}
 use Rattle.ot_text.proofs.gather.gathered.Goals as goal
-use Rattle.ot_plain.proofs.Results.{same_Err}
+use Rattle.ot_logic.proofs.Results.{same_Err}
 
 pub returns-in_err-append-clause-too_large : goal.returns-in_err-append-clause-too_large
 returns-in_err-append-clause-too_large g c = λ p.

@@ -1,6 +1,6 @@
 use Rattle.std.proofs.Common.{ap, subst, ◌∙◌, [], ◌∷◌}
-use Rattle.ot_plain.specs.Naming.{IsNameTable}
-use Rattle.ot_plain.specs.Table.{IsInjective}
+use Rattle.ot_logic.specs.Naming.{IsNameTable}
+use Rattle.ot_logic.specs.Table.{IsInjective}
 use Rattle.ot_trace.specs.Reach.{MarksReached}
 use Rattle.ot_uses.specs.Placing.{marked_places, first_places}
 use Rattle.ot_uses.proofs.Found.{assumptions-are, definitions-are}

@@ -1,5 +1,5 @@
 use Rattle.std.proofs.Common.{arith}
-use Rattle.ot_plain.proofs.TableLemmas.{Extends-trans}
+use Rattle.ot_logic.proofs.TableLemmas.{Extends-trans}
 use Rattle.ot_values.specs.Steps.{IsNameOf}
 use Rattle.ot_values.proofs.Later.{name-later}
 use Rattle.ot_values.proofs.Listing.{each-next}

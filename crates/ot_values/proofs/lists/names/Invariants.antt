@@ -1,5 +1,5 @@
 use Rattle.std.proofs.Common.{take}
-use Rattle.ot_plain.specs.Table.{Extends}
+use Rattle.ot_logic.specs.Table.{Extends}
 use Rattle.ot_values.specs.Steps.{IsNameOf}
 use Rattle.ot_values.proofs.Listing.{AreEach}
 use Rattle.ot_values.proofs.lists.names.Given as goal

@@ -2,7 +2,7 @@ use Rattle.std.proofs.Common.{sym, ◌∙◌}
 use Rattle.indexmap.proofs.CallerLemmas.{insert_entry-new}
 use Rattle.ot_values.proofs.Mapping.{both-pushed}
 use Rattle.ot_values.proofs.maps.add_first.Goals as goal
-use Rattle.ot_plain.proofs.Results.{none_from}
+use Rattle.ot_logic.proofs.Results.{none_from}
 
 pub returns-clause-seen : goal.returns-clause-seen
 returns-clause-seen g c =

@@ -1,7 +1,7 @@
 use Rattle.std.specs.Prelude.{IfOk}
 use Rattle.std.proofs.Common.{subst}
-use Rattle.ot_plain.specs.Names.{Name}
-use Rattle.ot_plain.specs.Trees.{Tm, Abs}
+use Rattle.ot_logic.specs.Names.{Name}
+use Rattle.ot_logic.specs.Trees.{Tm, Abs}
 use Rattle.ot_nodes.specs.Items.{IsTerm}
 use Rattle.ot_nodes.proofs.ItemLemmas.{term-is, type-stays}
 use Rattle.ot_values.proofs.values.abstraction.Goals as goal

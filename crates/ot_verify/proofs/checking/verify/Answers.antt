@@ -2,7 +2,7 @@ use Rattle.std.specs.Prelude.{Ok, Err}
 use Rattle.std.proofs.Common.{ap, subst}
 use Rattle.std.proofs.lemmas.Result.{err_from_is_err_and}
 use Rattle.ot_io.proofs.Keeping.{KeepsSource-then}
-use Rattle.ot_plain.specs.Naming.{names}
+use Rattle.ot_logic.specs.Naming.{names}
 use Rattle.ot_records.specs.Records.{form}
 use Rattle.ot_verify.specs.Logged.{RecordedFrom}
 use Rattle.ot_verify.specs.Going.{BeginsFrom}

@@ -1,7 +1,7 @@
 use Rattle.std.specs.Prelude.{Ok}
 use Rattle.std.proofs.Common.{sym, subst}
-use Rattle.ot_plain.specs.Names.{Name}
-use Rattle.ot_plain.specs.Naming.{names}
+use Rattle.ot_logic.specs.Names.{Name}
+use Rattle.ot_logic.specs.Naming.{names}
 use Rattle.ot_records.specs.Steps.{abs_thm_step}
 use Rattle.ot_records.specs.State.{LogState, makes_sequent}
 use Rattle.ot_records.specs.Records.{Makes, AskSequent, ask_variable}

@@ -1,5 +1,5 @@
-use Rattle.ot_plain.specs.Naming.{names}
-use Rattle.ot_plain.specs.Trees.{App}
+use Rattle.ot_logic.specs.Naming.{names}
+use Rattle.ot_logic.specs.Trees.{App}
 use Rattle.ot_records.specs.State.{makes_term}
 use Rattle.ot_records.specs.Records.{Makes, AskTerm}
 use Rattle.ot_verify.specs.Asking.{IsAt}

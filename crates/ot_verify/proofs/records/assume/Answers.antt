@@ -1,4 +1,4 @@
-use Rattle.ot_plain.specs.Naming.{names}
+use Rattle.ot_logic.specs.Naming.{names}
 use Rattle.ot_records.specs.Steps.{assume_step}
 use Rattle.ot_records.specs.State.{makes_sequent}
 use Rattle.ot_records.specs.Records.{Makes, AskTerm}

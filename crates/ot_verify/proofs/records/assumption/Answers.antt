@@ -1,6 +1,6 @@
 use Rattle.std.specs.Prelude.{Vec}
 use Rattle.std.proofs.Common.{ℕ, refl, sym, subst, Global}
-use Rattle.ot_plain.specs.Naming.{names}
+use Rattle.ot_logic.specs.Naming.{names}
 use Rattle.ot_records.specs.Steps.{assumption_step}
 use Rattle.ot_records.specs.State.{makes_assumption}
 use Rattle.ot_records.specs.Records.{Makes, AskTerm, ask_list}

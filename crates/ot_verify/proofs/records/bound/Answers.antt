@@ -1,6 +1,6 @@
 use Rattle.std.proofs.Common.{ℕ, subst}
-use Rattle.ot_plain.specs.Naming.{names}
-use Rattle.ot_plain.specs.Trees.{Bound}
+use Rattle.ot_logic.specs.Naming.{names}
+use Rattle.ot_logic.specs.Trees.{Bound}
 use Rattle.ot_records.specs.State.{makes_term}
 use Rattle.ot_records.specs.Records.{Makes, AskCount}
 use Rattle.ot_verify.specs.Asking.{IsValue}

@@ -1,8 +1,8 @@
 use Rattle.std.specs.Prelude.{Ok}
 use Rattle.std.proofs.Common.{sym, subst}
-use Rattle.ot_plain.specs.Names.{Name}
-use Rattle.ot_plain.specs.Naming.{names}
-use Rattle.ot_plain.specs.Trees.{Con}
+use Rattle.ot_logic.specs.Names.{Name}
+use Rattle.ot_logic.specs.Naming.{names}
+use Rattle.ot_logic.specs.Trees.{Con}
 use Rattle.ot_records.specs.State.{LogState, makes_term}
 use Rattle.ot_records.specs.Records.{Makes, AskName, AskType}
 use Rattle.ot_verify.specs.Asking.{AnsweredFrom, IsAt}

@@ -1,6 +1,6 @@
 use Rattle.std.proofs.Common.{subst}
-use Rattle.ot_plain.specs.Naming.{names}
-use Rattle.ot_plain.specs.Trees.{Free}
+use Rattle.ot_logic.specs.Naming.{names}
+use Rattle.ot_logic.specs.Trees.{Free}
 use Rattle.ot_records.specs.State.{makes_term}
 use Rattle.ot_records.specs.Records.{Makes, ask_variable}
 use Rattle.ot_verify.specs.Logged.{IsVariable, MadeBy, settled_at}

@@ -1,7 +1,7 @@
 use Rattle.std.specs.Prelude.{Ok, Vec}
 use Rattle.std.proofs.Common.{sym, subst, Global}
-use Rattle.ot_plain.specs.Names.{Name}
-use Rattle.ot_plain.specs.Naming.{names}
+use Rattle.ot_logic.specs.Names.{Name}
+use Rattle.ot_logic.specs.Naming.{names}
 use Rattle.ot_records.specs.Steps.{subst_step}
 use Rattle.ot_records.specs.State.{LogState, makes_sequent}
 use Rattle.ot_records.specs.Records.{Makes, AskSequent, ask_list, ask_type_pair, ask_term_pair}

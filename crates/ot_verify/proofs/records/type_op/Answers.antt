@@ -1,8 +1,8 @@
 use Rattle.std.specs.Prelude.{Ok, Vec}
 use Rattle.std.proofs.Common.{ℕ, ◌∙◌, ap, refl, sym, subst, Global}
-use Rattle.ot_plain.specs.Names.{Name}
-use Rattle.ot_plain.specs.Naming.{names}
-use Rattle.ot_plain.specs.Trees.{TyOp}
+use Rattle.ot_logic.specs.Names.{Name}
+use Rattle.ot_logic.specs.Naming.{names}
+use Rattle.ot_logic.specs.Trees.{TyOp}
 use Rattle.ot_records.specs.State.{LogState, makes_type}
 use Rattle.ot_records.specs.Records.{Makes, AskName, AskType, ask_list, arguments}
 use Rattle.ot_verify.specs.Asking.{AnsweredFrom, IsAt, AreEach}

@@ -1,6 +1,6 @@
 use Rattle.std.proofs.Common.{subst}
-use Rattle.ot_plain.specs.Naming.{names}
-use Rattle.ot_plain.specs.Trees.{TyVar}
+use Rattle.ot_logic.specs.Naming.{names}
+use Rattle.ot_logic.specs.Trees.{TyVar}
 use Rattle.ot_records.specs.State.{makes_type}
 use Rattle.ot_records.specs.Records.{Makes, AskName}
 use Rattle.ot_verify.specs.Logged.{IsNamed, MadeBy, settled_at}

@@ -1,5 +1,5 @@
 use Rattle.std.proofs.Common.{[]}
-use Rattle.ot_plain.specs.Trees.{ConDef}
+use Rattle.ot_logic.specs.Trees.{ConDef}
 use Rattle.ot_nodes.specs.Items.{name_at, term_at}
 use Rattle.ot_words.proofs.Defining.{constant-defined, constant-taken, defines-taken}
 use Rattle.ot_words.proofs.definitions.write_constant.Goals as goal

@@ -1,5 +1,5 @@
 use Rattle.std.proofs.Common.{[], subst, ◌∙◌}
-use Rattle.ot_plain.specs.Trees.{ListDef}
+use Rattle.ot_logic.specs.Trees.{ListDef}
 use Rattle.ot_entries.specs.Logged.{write_entry}
 use Rattle.ot_rules.specs.Statements.{sequent_at}
 use Rattle.ot_rules.specs.Definitions.{pairs_at}

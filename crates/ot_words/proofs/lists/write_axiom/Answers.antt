@@ -2,8 +2,8 @@ use Rattle.std.specs.List.{All}
 use Rattle.std.proofs.Common.{◌∙◌, map, Ok, ap, sym, subst}
 use Rattle.ot_nodes.specs.Items.{HasTerm, term_at}
 use Rattle.ot_words.proofs.Listed.{has-assumption, assumption-is, axiom-records}
-use Rattle.ot_plain.specs.Naming.{names}
-use Rattle.ot_plain.specs.Answers.{◌>>=◌}
+use Rattle.ot_logic.specs.Naming.{names}
+use Rattle.ot_logic.specs.Answers.{◌>>=◌}
 use Rattle.ot_kernel.specs.Axioms.{axiom_rule}
 use Rattle.ot_records.specs.Steps.{assumption_step}
 use Rattle.ot_rules.specs.Statements.{terms_at}

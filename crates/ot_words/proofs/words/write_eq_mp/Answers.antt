@@ -1,5 +1,5 @@
-use Rattle.ot_plain.specs.Naming.{names}
-use Rattle.ot_plain.specs.Rules.{eq_mp_rule}
+use Rattle.ot_logic.specs.Naming.{names}
+use Rattle.ot_logic.specs.Rules.{eq_mp_rule}
 use Rattle.ot_laws.proofs.Tests.{tells_names}
 use Rattle.ot_records.specs.Steps.{eq_mp_step}
 use Rattle.ot_entries.proofs.Ruled.{eq_mp-ruled}

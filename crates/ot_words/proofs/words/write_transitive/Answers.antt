@@ -1,8 +1,8 @@
 use Rattle.ot_rules.proofs.Staying.{sequent-stays, still-statement}
 use Rattle.ot_words.proofs.Recorded.{derives-taken, result-of, trans-records}
 use Rattle.std.proofs.Common.{◌∙◌}
-use Rattle.ot_plain.specs.Naming.{names}
-use Rattle.ot_plain.specs.Rules.{trans_rule}
+use Rattle.ot_logic.specs.Naming.{names}
+use Rattle.ot_logic.specs.Rules.{trans_rule}
 use Rattle.ot_rules.specs.Statements.{sequent_at}
 use Rattle.ot_sheet.proofs.Deriving.{trans-none, trans-other}
 use Rattle.ot_words.proofs.words.write_transitive.Goals as goal

@@ -4,7 +4,7 @@ use Rattle.std.proofs.lemmas.Result.{IfOk-weaker}
 use Rattle.ot_trace.specs.Reach.{MarksReached}
 use Rattle.ot_trace.specs.Trace.{origin_at}
 use Rattle.ot_written.specs.Needed.{needed_definitions}
-use Rattle.ot_plain.specs.Lists.{IsPart}
+use Rattle.ot_logic.specs.Lists.{IsPart}
 use Rattle.ot_write.specs.Emitting.{root_steps, same}
 use Rattle.ot_write.proofs.ByCounts.{all-in, in-all, roots-in, roots-are}
 use Rattle.ot_write.proofs.Marking.{taken-needed}

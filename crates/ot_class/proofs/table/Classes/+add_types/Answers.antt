@@ -9,7 +9,7 @@ use Rattle.std.proofs.lemmas.Bool.Decides.{Decides-eqb}
 use Rattle.ot_class.proofs.GatheringLemmas.{adds-none, adds-newer, adds-seen, adds-same, adds-other}
 use Rattle.ot_class.proofs.GatheringLemmas.{adds-application, adds-abstraction, adds-at, seen_grown, seen_insert}
 use Rattle.ot_class.proofs.table.Classes.+add_types.Goals as goal
-use Rattle.ot_plain.proofs.Results.{on_ok-then}
+use Rattle.ot_logic.proofs.Results.{on_ok-then}
 
 pub add_node_types-returns-then-eq-clause-added : goal.add_node_types-returns-then-eq-clause-added
 add_node_types-returns-then-eq-clause-added t c =

@@ -8,7 +8,7 @@ use Rattle.std.proofs.lemmas.Bool.Decides.{Decides-eqb}
 use Rattle.ot_class.proofs.GatheringLemmas.{adds-none, adds-closed, adds-seen, adds-key, adds-application}
 use Rattle.ot_class.proofs.GatheringLemmas.{adds-abstraction, adds-at, seen_grown, seen_insert}
 use Rattle.ot_class.proofs.table.Classes.+add_vars.Goals as goal
-use Rattle.ot_plain.proofs.Results.{on_ok-then}
+use Rattle.ot_logic.proofs.Results.{on_ok-then}
 
 -- the variable of a free node is added
 added : (t : ℕ) (c : goal.add_node_vars-In_ok-insert-in-Free t)

@@ -1,17 +1,17 @@
 use Rattle.std.proofs.Common.{◌≡◌, slice_get, refl, sym, subst, ap, ◌∙◌, Some, arith}
 use Rattle.std.proofs.lemmas.Option.{slice_get_within}
 use Rattle.std.proofs.lemmas.Result.{IfOk-weaker}
-use Rattle.ot_plain.specs.Hol.{close_at}
-use Rattle.ot_plain.specs.Naming.{numbers}
-use Rattle.ot_plain.specs.Trees.{Bound}
-use Rattle.ot_plain.proofs.TableLemmas.{get_or-Extends}
+use Rattle.ot_logic.specs.Hol.{close_at}
+use Rattle.ot_logic.specs.Naming.{numbers}
+use Rattle.ot_logic.specs.Trees.{Bound}
+use Rattle.ot_logic.proofs.TableLemmas.{get_or-Extends}
 use Rattle.ot_class.specs.Class.{class_at, numbered, variable_of}
 use Rattle.ot_class.specs.Table.{tree_of, AreBelow}
 use Rattle.ot_class.proofs.ClassLemmas.{less_than}
 use Rattle.ot_class.proofs.ClosingLemmas.{newer, closing_grown, closing_insert, closed-application}
 use Rattle.ot_class.proofs.ClosingLemmas.{closed-abstraction, closed-other, closed-leaf}
 use Rattle.ot_class.proofs.table.Classes.+close_at.Goals as goal
-use Rattle.ot_plain.proofs.Results.{on_ok}
+use Rattle.ot_logic.proofs.Results.{on_ok}
 
 pub close_at-returns-then-lt-clause-ok : goal.close_at-returns-then-lt-clause-ok
 close_at-returns-then-lt-clause-ok t c =

@@ -1,5 +1,5 @@
 use Rattle.std.proofs.Common.{inl, inr, subst}
-use Rattle.ot_plain.specs.Lists.{IsMember}
+use Rattle.ot_logic.specs.Lists.{IsMember}
 use Rattle.ot_class.proofs.table.Classes.types_of.Goals as goal
 
 pub returns-clause-free : goal.returns-clause-free

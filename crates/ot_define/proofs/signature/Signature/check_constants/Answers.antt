@@ -1,6 +1,6 @@
 use Rattle.std.proofs.Common.{List, map, subst, ap, ◌∙◌}
-use Rattle.ot_plain.specs.Hol.{symbols_of}
-use Rattle.ot_plain.specs.Naming.{numbers}
+use Rattle.ot_logic.specs.Hol.{symbols_of}
+use Rattle.ot_logic.specs.Naming.{numbers}
 use Rattle.ot_term.specs.Symbols.{symbol_of}
 use Rattle.ot_laws.specs.Conditions.{checked_symbols}
 use Rattle.ot_define.specs.Answers.{Checks, sequent_at}

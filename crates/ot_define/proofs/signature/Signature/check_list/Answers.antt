@@ -2,11 +2,11 @@ use Rattle.std.specs.Prelude.{◌==◌}
 use Rattle.std.specs.Option.{option_map}
 use Rattle.std.proofs.Common.{◌≡◌, ℕ, List, ◌&&◌, length, map, nat_eq, subst, sym, ap, ◌∙◌}
 use Rattle.std.proofs.lemmas.List.{length-map}
-use Rattle.ot_plain.specs.Answers.{◌>>=◌, unless, some_or}
-use Rattle.ot_plain.specs.Faults.{Fault, BadDefinitionList}
-use Rattle.ot_plain.specs.Hol.{same_var, symbols_of}
-use Rattle.ot_plain.specs.Trees.{ConSymbol}
-use Rattle.ot_plain.specs.Naming.{numbers}
+use Rattle.ot_logic.specs.Answers.{◌>>=◌, unless, some_or}
+use Rattle.ot_logic.specs.Faults.{Fault, BadDefinitionList}
+use Rattle.ot_logic.specs.Hol.{same_var, symbols_of}
+use Rattle.ot_logic.specs.Trees.{ConSymbol}
+use Rattle.ot_logic.specs.Naming.{numbers}
 use Rattle.ot_term.specs.TermTable.{variable_of}
 use Rattle.ot_laws.specs.Conditions.{are_distinct, checked_symbols, terms_given}
 use Rattle.ot_define.specs.Answers.{Checks, checked_given, tm_at, sequent_at}

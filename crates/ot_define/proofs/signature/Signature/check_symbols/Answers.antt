@@ -1,9 +1,9 @@
 use Rattle.std.proofs.Common.{map, subst}
 use Rattle.std.specs.Prelude.{◌||◌}
-use Rattle.ot_plain.specs.Faults.{Primitive, SymbolInUse}
-use Rattle.ot_plain.specs.Hol.{primitives, symbols_of}
-use Rattle.ot_plain.specs.Naming.{numbers}
-use Rattle.ot_plain.specs.Answers.{◌>>=◌}
+use Rattle.ot_logic.specs.Faults.{Primitive, SymbolInUse}
+use Rattle.ot_logic.specs.Hol.{primitives, symbols_of}
+use Rattle.ot_logic.specs.Naming.{numbers}
+use Rattle.ot_logic.specs.Answers.{◌>>=◌}
 use Rattle.ot_laws.proofs.Tests.{tells_numbers}
 use Rattle.ot_term.specs.Symbols.{symbol_of}
 use Rattle.ot_laws.specs.Conditions.{is_among, refuse_first, refuse_defined}

@@ -1,8 +1,8 @@
 use Rattle.std.proofs.Common.{List, ◌∷◌, ◌++◌, Err, map, drop, sym, ap, ◌+◌, ◌∙◌}
 use Rattle.std.proofs.lemmas.Option.{same_Some}
 use Rattle.indexmap.specs.IndexSet.{insert_key}
-use Rattle.ot_plain.specs.Faults.{AlreadyDefined}
-use Rattle.ot_plain.specs.Naming.{numbers}
+use Rattle.ot_logic.specs.Faults.{AlreadyDefined}
+use Rattle.ot_logic.specs.Naming.{numbers}
 use Rattle.ot_laws.proofs.Tests.{tells_numbers}
 use Rattle.ot_term.specs.declared.term.Symbol.{Symbol}
 use Rattle.ot_term.specs.Symbols.{symbol_of}

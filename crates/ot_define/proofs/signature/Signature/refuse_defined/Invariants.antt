@@ -1,5 +1,5 @@
 use Rattle.std.proofs.Common.{◌≡◌, ◌++◌, map, drop}
-use Rattle.ot_plain.specs.Naming.{numbers}
+use Rattle.ot_logic.specs.Naming.{numbers}
 use Rattle.ot_term.specs.Symbols.{symbol_of}
 use Rattle.ot_laws.specs.Conditions.{refuse_defined}
 use Rattle.ot_define.proofs.signature.Signature.refuse_defined.Given as goal

@@ -1,7 +1,7 @@
 use Rattle.std.proofs.Common.{◌||◌, Err, map, sym, ap, ◌∙◌}
 use Rattle.std.proofs.lemmas.Option.{same_Some}
-use Rattle.ot_plain.specs.Faults.{SymbolInUse}
-use Rattle.ot_plain.specs.Naming.{numbers}
+use Rattle.ot_logic.specs.Faults.{SymbolInUse}
+use Rattle.ot_logic.specs.Naming.{numbers}
 use Rattle.ot_term.specs.Symbols.{symbol_of}
 use Rattle.ot_laws.specs.Conditions.{is_among}
 use Rattle.ot_define.proofs.Refusing.{first-some, first-none}

@@ -1,6 +1,6 @@
 use Rattle.std.proofs.Common.{map, ◌++◌, refl, sym, ◌∙◌, subst, append-nil, arith}
 use Rattle.std.proofs.lemmas.List.{take_all}
-use Rattle.ot_plain.specs.PlainTrees.{term_of_tree}
+use Rattle.ot_logic.specs.PlainTrees.{term_of_tree}
 use Rattle.ot_kernel.specs.State.{theorem_at}
 use Rattle.ot_find.specs.Matches.{matches_in}
 use Rattle.ot_find.specs.Texts.{HasFound}

@@ -1,5 +1,5 @@
 use Rattle.std.proofs.Common.{◌≡◌, List, ◌++◌, map, take}
-use Rattle.ot_plain.specs.PlainTrees.{term_of_tree}
+use Rattle.ot_logic.specs.PlainTrees.{term_of_tree}
 use Rattle.ot_kernel.specs.State.{theorem_at}
 use Rattle.ot_find.specs.Matches.{Found, matches_in}
 use Rattle.ot_find.specs.Texts.{HasFound}

@@ -1,6 +1,6 @@
 use Rattle.std.specs.Prelude.{Ok}
 use Rattle.std.proofs.Common.{sym, ap, ◌∙◌, refl}
-use Rattle.ot_plain.specs.PlainTrees.{term_of_tree}
+use Rattle.ot_logic.specs.PlainTrees.{term_of_tree}
 use Rattle.ot_kernel.specs.State.{term_at, theorem_at}
 use Rattle.ot_find.proofs.Pieces.{stopped-step, none-step, some-step}
 use Rattle.ot_find.proofs.search.Search.add_theorem.Goals as goal

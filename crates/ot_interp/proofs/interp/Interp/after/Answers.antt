@@ -1,5 +1,5 @@
 use Rattle.std.proofs.Common.{◌≡◌, ℕ, sym, subst, ◌∙◌}
-use Rattle.ot_plain.specs.Naming.{numbers}
+use Rattle.ot_logic.specs.Naming.{numbers}
 use Rattle.ot_interp.specs.Interpretation.{Interpretation, after, IsWithin}
 use Rattle.ot_interp.proofs.Renaming.{after-within}
 use Rattle.ot_interp.proofs.interp.Interp.after.Goals as goal

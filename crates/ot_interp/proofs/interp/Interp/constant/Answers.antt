@@ -1,5 +1,5 @@
 use Rattle.std.proofs.Common.{◌<◌, sym, ap, subst, ◌∙◌}
-use Rattle.ot_plain.specs.Naming.{numbers}
+use Rattle.ot_logic.specs.Naming.{numbers}
 use Rattle.ot_interp.specs.Interpretation.{renamed}
 use Rattle.ot_interp.proofs.Renaming.{renamed-within}
 use Rattle.ot_interp.proofs.interp.Interp.constant.Goals as goal

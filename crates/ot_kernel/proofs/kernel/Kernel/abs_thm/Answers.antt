@@ -1,5 +1,5 @@
-use Rattle.ot_plain.specs.Naming.{names}
-use Rattle.ot_plain.specs.Rules.{abs_thm_rule}
+use Rattle.ot_logic.specs.Naming.{names}
+use Rattle.ot_logic.specs.Rules.{abs_thm_rule}
 use Rattle.ot_kernel.specs.Spelled.{state_of}
 use Rattle.ot_kernel.specs.State.{variable_at, theorem_at}
 use Rattle.ot_kernel.proofs.Later.{later_terms, held_of, held_at}

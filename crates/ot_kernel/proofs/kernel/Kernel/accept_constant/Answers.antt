@@ -1,6 +1,6 @@
 use Rattle.std.proofs.Common.{◌≡◌, ℕ, [], ◌∷◌, ◌++◌, List, map, length, sym, ap, subst, ◌∙◌, arith}
 use Rattle.std.proofs.lemmas.List.{length-map}
-use Rattle.ot_plain.specs.Trees.{Symbol}
+use Rattle.ot_logic.specs.Trees.{Symbol}
 use Rattle.ot_term.specs.Symbols.{symbol_of}
 use Rattle.ot_kernel.specs.Accepting.{IsAcceptable}
 use Rattle.ot_kernel.specs.declared.definition.Definition.TheVariants as code

@@ -1,6 +1,6 @@
 use Rattle.std.proofs.Common.{◌≡◌, ℕ, [], ◌∷◌, ◌++◌, List, map, length, sym, ap, subst, ◌∙◌, ◌+◌, arith}
 use Rattle.std.proofs.lemmas.List.{length-map}
-use Rattle.ot_plain.specs.Trees.{Symbol, ConSymbol, ListDef}
+use Rattle.ot_logic.specs.Trees.{Symbol, ConSymbol, ListDef}
 use Rattle.ot_term.specs.Symbols.{symbol_of}
 use Rattle.ot_term.specs.declared.term.VarKey.{VarKey}
 use Rattle.ot_define.proofs.Keys.{constants-symbols}

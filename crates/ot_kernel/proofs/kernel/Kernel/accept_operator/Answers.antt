@@ -1,7 +1,7 @@
 use Rattle.std.proofs.Common.{◌≡◌, ℕ, ◌<◌, [], ◌∷◌, ◌++◌, List, map, length, sym, ap, subst, ◌∙◌, ◌+◌, arith}
 use Rattle.std.specs.List.{All}
 use Rattle.std.proofs.lemmas.List.{length-map}
-use Rattle.ot_plain.specs.Trees.{Symbol, ConSymbol, OpSymbol, TyDef}
+use Rattle.ot_logic.specs.Trees.{Symbol, ConSymbol, OpSymbol, TyDef}
 use Rattle.ot_term.specs.Symbols.{symbol_of}
 use Rattle.ot_kernel.specs.Accepting.{accepting, IsAcceptable}
 use Rattle.ot_kernel.specs.declared.definition.Definition as kind

@@ -1,6 +1,6 @@
 use Rattle.std.proofs.Common.{◌≡◌, true, sym, ap, ◌∙◌, subst}
-use Rattle.ot_plain.specs.Naming.{names}
-use Rattle.ot_plain.specs.Rules.{has_type}
+use Rattle.ot_logic.specs.Naming.{names}
+use Rattle.ot_logic.specs.Rules.{has_type}
 use Rattle.ot_kernel.specs.State.{type_at, term_at}
 use Rattle.ot_kernel.specs.Pairs.{term_pairs, IsSubstIn}
 use Rattle.ot_kernel.proofs.Adding.{negated, term_added, term_fits}

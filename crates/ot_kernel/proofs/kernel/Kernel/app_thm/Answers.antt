@@ -1,5 +1,5 @@
-use Rattle.ot_plain.specs.Naming.{names}
-use Rattle.ot_plain.specs.Rules.{app_thm_rule}
+use Rattle.ot_logic.specs.Naming.{names}
+use Rattle.ot_logic.specs.Rules.{app_thm_rule}
 use Rattle.ot_laws.proofs.Sound.{app_thm_rule-sound}
 use Rattle.ot_laws.proofs.Tests.{tells_names}
 use Rattle.ot_kernel.specs.Spelled.{state_of}

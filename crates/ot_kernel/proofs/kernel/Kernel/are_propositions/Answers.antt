@@ -1,8 +1,8 @@
 use Rattle.std.specs.List.{list_all}
 use Rattle.std.proofs.Common.{refl, sym, ap, ◌∙◌}
-use Rattle.ot_plain.specs.Hol.{bool_ty}
-use Rattle.ot_plain.specs.Naming.{names}
-use Rattle.ot_plain.specs.Rules.{has_type}
+use Rattle.ot_logic.specs.Hol.{bool_ty}
+use Rattle.ot_logic.specs.Naming.{names}
+use Rattle.ot_logic.specs.Rules.{has_type}
 use Rattle.ot_kernel.proofs.Growth.{hyps-Extends}
 use Rattle.ot_kernel.proofs.Supposed.{tests_hypotheses}
 use Rattle.ot_kernel.proofs.kernel.Kernel.are_propositions.Goals as goal

@@ -1,7 +1,7 @@
 use Rattle.std.proofs.Common.{◌≡◌, true, Ok, refl, sym, ap, subst, ◌∙◌}
-use Rattle.ot_plain.specs.Hol.{bool_ty}
-use Rattle.ot_plain.specs.Naming.{names}
-use Rattle.ot_plain.specs.Rules.{has_type, assume_rule}
+use Rattle.ot_logic.specs.Hol.{bool_ty}
+use Rattle.ot_logic.specs.Naming.{names}
+use Rattle.ot_logic.specs.Rules.{has_type, assume_rule}
 use Rattle.ot_laws.specs.Theorem.{IsTheorem}
 use Rattle.ot_kernel.specs.State.{term_at}
 use Rattle.ot_kernel.specs.Spelled.{sequent_of}

@@ -1,8 +1,8 @@
 use Rattle.std.proofs.Common.{◌≡◌, true, arith, inl, inr, ◌∙◌}
 use Rattle.std.specs.List.{list_all}
-use Rattle.ot_plain.specs.Hol.{bool_ty}
-use Rattle.ot_plain.specs.Naming.{names}
-use Rattle.ot_plain.specs.Rules.{has_type}
+use Rattle.ot_logic.specs.Hol.{bool_ty}
+use Rattle.ot_logic.specs.Naming.{names}
+use Rattle.ot_logic.specs.Rules.{has_type}
 use Rattle.ot_kernel.specs.State.{term_at, terms_at}
 use Rattle.ot_kernel.proofs.Later.{unchanged}
 use Rattle.ot_kernel.proofs.Supposed.{tests_conclusion, tests_hypotheses, refused_axiom}

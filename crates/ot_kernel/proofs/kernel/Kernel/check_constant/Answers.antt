@@ -1,5 +1,5 @@
 use Rattle.std.proofs.Common.{length}
-use Rattle.ot_plain.specs.Naming.{names}
+use Rattle.ot_logic.specs.Naming.{names}
 use Rattle.ot_kernel.specs.Answers.{RefusesBy, IsSymbolIn}
 use Rattle.ot_kernel.specs.Defining.{const_definition}
 use Rattle.ot_kernel.specs.Refusals.{of_define}

@@ -1,6 +1,6 @@
 use Rattle.std.proofs.Common.{map, sym, subst}
 use Rattle.std.proofs.lemmas.Result.{err_from_is_err_and}
-use Rattle.ot_plain.specs.Naming.{names}
+use Rattle.ot_logic.specs.Naming.{names}
 use Rattle.ot_kernel.specs.Answers.{RefusesBy}
 use Rattle.ot_kernel.specs.Defining.{list_definition}
 use Rattle.ot_kernel.specs.Spelled.{state_of}

@@ -1,8 +1,8 @@
 use Rattle.std.proofs.Common.{◌≡◌, ◌<◌, ◌+◌, suc, ◌∷◌, map, length, Ok, Err, refl, ap, arith}
 use Rattle.std.proofs.lemmas.Result.{err_from_is_err_and}
 use Rattle.std.proofs.lemmas.List.{length-map}
-use Rattle.ot_plain.specs.Hol.{theorems_at}
-use Rattle.ot_plain.specs.Naming.{names, numbers}
+use Rattle.ot_logic.specs.Hol.{theorems_at}
+use Rattle.ot_logic.specs.Naming.{names, numbers}
 use Rattle.ot_term.proofs.Growing.{grown_further}
 use Rattle.ot_kernel.specs.Defining.{type_definition}
 use Rattle.ot_kernel.specs.Numbered.{tm_at}

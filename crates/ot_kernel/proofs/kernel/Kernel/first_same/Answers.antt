@@ -1,7 +1,7 @@
 use Rattle.std.proofs.Common.{◌≡◌, ◌+◌, cond, Some, List, ℕ, drop, map, sym, ap, ◌∙◌}
 use Rattle.std.specs.Prelude.{find}
-use Rattle.ot_plain.specs.Hol.{same_sequent}
-use Rattle.ot_plain.specs.Naming.{names}
+use Rattle.ot_logic.specs.Hol.{same_sequent}
+use Rattle.ot_logic.specs.Naming.{names}
 use Rattle.ot_kernel.specs.State.{term_at, terms_at, theorem_at}
 use Rattle.ot_kernel.specs.Spelled.{sequent_of}
 use Rattle.ot_kernel.proofs.Supposed.{find-next}

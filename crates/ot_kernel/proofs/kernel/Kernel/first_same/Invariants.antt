@@ -1,7 +1,7 @@
 use Rattle.std.proofs.Common.{◌≡◌, drop, map}
 use Rattle.std.specs.Prelude.{find}
-use Rattle.ot_plain.specs.Hol.{same_sequent}
-use Rattle.ot_plain.specs.Naming.{names}
+use Rattle.ot_logic.specs.Hol.{same_sequent}
+use Rattle.ot_logic.specs.Naming.{names}
 use Rattle.ot_kernel.specs.State.{theorem_at}
 use Rattle.ot_kernel.specs.Spelled.{sequent_of}
 use Rattle.ot_kernel.proofs.kernel.Kernel.first_same.Given as goal

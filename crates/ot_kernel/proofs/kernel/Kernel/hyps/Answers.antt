@@ -1,6 +1,6 @@
 use Rattle.std.proofs.Common.{ap, ◌∙◌, List, ℕ, slice_index_or}
-use Rattle.ot_plain.specs.Names.{Name}
-use Rattle.ot_plain.specs.Trees.{Sequent}
+use Rattle.ot_logic.specs.Names.{Name}
+use Rattle.ot_logic.specs.Trees.{Sequent}
 use Rattle.ot_kernel.specs.State.{terms_at}
 use Rattle.ot_kernel.proofs.Later.{held_of}
 use Rattle.ot_kernel.proofs.Theorems.{real_theorem}

@@ -1,5 +1,5 @@
-use Rattle.ot_plain.specs.Naming.{names}
-use Rattle.ot_plain.specs.Rules.{subst_rule}
+use Rattle.ot_logic.specs.Naming.{names}
+use Rattle.ot_logic.specs.Rules.{subst_rule}
 use Rattle.ot_kernel.specs.Spelled.{state_of}
 use Rattle.ot_kernel.specs.State.{theorem_at}
 use Rattle.ot_kernel.specs.Pairs.{type_pairs, term_pairs}

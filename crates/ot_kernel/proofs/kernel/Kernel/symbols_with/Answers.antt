@@ -1,11 +1,11 @@
 use Rattle.std.proofs.Common.{[], ◌∷◌, ◌++◌, List, ℕ, map, ap, subst, ◌∙◌}
 use Rattle.std.specs.Prelude.{IfOk}
-use Rattle.ot_plain.specs.Hol.{symbols_all}
-use Rattle.ot_plain.specs.Lists.{IsSameSet}
-use Rattle.ot_plain.specs.Names.{Name}
-use Rattle.ot_plain.specs.Naming.{names}
-use Rattle.ot_plain.specs.Renamed.{map_symbol}
-use Rattle.ot_plain.specs.Trees.{Symbol}
+use Rattle.ot_logic.specs.Hol.{symbols_all}
+use Rattle.ot_logic.specs.Lists.{IsSameSet}
+use Rattle.ot_logic.specs.Names.{Name}
+use Rattle.ot_logic.specs.Naming.{names}
+use Rattle.ot_logic.specs.Renamed.{map_symbol}
+use Rattle.ot_logic.specs.Trees.{Symbol}
 use Rattle.ot_term.specs.Symbols.{symbol_of}
 use Rattle.ot_kernel.specs.State.{name_at, terms_at, theorem_at}
 use Rattle.ot_kernel.proofs.Occurring.{symbols-after}

@@ -1,5 +1,5 @@
-use Rattle.ot_plain.specs.Naming.{names}
-use Rattle.ot_plain.specs.Rules.{trans_rule}
+use Rattle.ot_logic.specs.Naming.{names}
+use Rattle.ot_logic.specs.Rules.{trans_rule}
 use Rattle.ot_laws.proofs.Sound.{trans_rule-sound}
 use Rattle.ot_laws.proofs.Tests.{tells_names}
 use Rattle.ot_kernel.specs.Spelled.{state_of}

@@ -1,10 +1,10 @@
 use Rattle.std.proofs.lemmas.Result.{IfOk-weaker}
-use Rattle.ot_plain.proofs.TableLemmas.{Extends-trans}
+use Rattle.ot_logic.proofs.TableLemmas.{Extends-trans}
 use Rattle.ot_nodes.proofs.TypingLemmas.{typings-grown}
 use Rattle.ot_rules.specs.Statements.{sequent_at}
 use Rattle.ot_log.proofs.Placed.{placed-later}
 use Rattle.ot_log.proofs.Putting.{abs_thm-puts, two-applied}
-use Rattle.ot_plain.specs.declared.command.Cmd.TheVariants as words
+use Rattle.ot_logic.specs.declared.command.Cmd.TheVariants as words
 use Rattle.ot_nodes.specs.Changing.{variable_at}
 use Rattle.ot_machine.specs.Objects.{variable, theorem}
 use Rattle.ot_log.proofs.writer.Writer.put_abs_thm.Goals as goal

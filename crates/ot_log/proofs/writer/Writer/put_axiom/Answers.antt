@@ -1,10 +1,10 @@
 use Rattle.std.proofs.Common.{[], ◌∷◌, sym, subst}
-use Rattle.ot_plain.proofs.TableLemmas.{Extends-trans}
+use Rattle.ot_logic.proofs.TableLemmas.{Extends-trans}
 use Rattle.ot_nodes.proofs.TypingLemmas.{typings-grown}
 use Rattle.ot_values.specs.Lists.{AreTermsOf}
 use Rattle.ot_values.proofs.Later.{terms-later}
 use Rattle.ot_log.proofs.Putting.{axiom-puts, if-each, two-applied}
-use Rattle.ot_plain.specs.declared.command.Cmd.TheVariants as words
+use Rattle.ot_logic.specs.declared.command.Cmd.TheVariants as words
 use Rattle.ot_nodes.specs.Items.{term_at}
 use Rattle.ot_rules.specs.Statements.{terms_at}
 use Rattle.ot_trace.specs.Origins.{NoOrigins, MoreOrigins}

@@ -1,7 +1,7 @@
 use Rattle.std.proofs.Common.{[], ◌∷◌, refl}
 use Rattle.std.proofs.lemmas.Result.{IfOk-weaker}
-use Rattle.ot_plain.proofs.TableLemmas.{Extends-trans}
-use Rattle.ot_plain.specs.declared.command.Cmd.TheVariants as words
+use Rattle.ot_logic.proofs.TableLemmas.{Extends-trans}
+use Rattle.ot_logic.specs.declared.command.Cmd.TheVariants as words
 use Rattle.ot_nodes.specs.Items.{name_at, term_at}
 use Rattle.ot_nodes.proofs.TypingLemmas.{typings-grown}
 use Rattle.ot_trace.specs.Origins.{NoOrigins, MoreOrigins}

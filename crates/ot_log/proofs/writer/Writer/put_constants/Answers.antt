@@ -1,6 +1,6 @@
 use Rattle.std.proofs.Common.{[], ◌∷◌, refl, sym, subst}
-use Rattle.ot_plain.proofs.TableLemmas.{Extends-trans}
-use Rattle.ot_plain.specs.declared.command.Cmd.TheVariants as words
+use Rattle.ot_logic.proofs.TableLemmas.{Extends-trans}
+use Rattle.ot_logic.specs.declared.command.Cmd.TheVariants as words
 use Rattle.ot_nodes.proofs.TypingLemmas.{typings-grown}
 use Rattle.ot_rules.specs.Statements.{sequent_at}
 use Rattle.ot_rules.specs.Definitions.{pairs_at}

@@ -1,5 +1,5 @@
 use Rattle.std.proofs.Common.{◌≡◌, length, arith, subst}
-use Rattle.ot_plain.specs.declared.command.Cmd.TheVariants as words
+use Rattle.ot_logic.specs.declared.command.Cmd.TheVariants as words
 use Rattle.ot_trace.specs.Origins.{Define}
 use Rattle.ot_values.specs.Steps.{origins_of}
 use Rattle.ot_log.specs.Keeping.{IsDefinable}

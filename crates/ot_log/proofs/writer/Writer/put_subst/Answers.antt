@@ -4,7 +4,7 @@ use Rattle.ot_rules.specs.Statements.{sequent_at}
 use Rattle.ot_values.specs.Lists.{AreMapsOf}
 use Rattle.ot_log.proofs.Placed.{placed-later}
 use Rattle.ot_log.proofs.Putting.{subst-puts, if-each, reads-maps, two-applied}
-use Rattle.ot_plain.specs.declared.command.Cmd.TheVariants as words
+use Rattle.ot_logic.specs.declared.command.Cmd.TheVariants as words
 use Rattle.ot_machine.specs.Objects.{list, theorem}
 use Rattle.ot_log.proofs.writer.Writer.put_subst.Goals as goal
 

@@ -1,5 +1,5 @@
 use Rattle.std.proofs.lemmas.Result.{IfOk-weaker}
-use Rattle.ot_plain.proofs.TableLemmas.{Extends-refl}
+use Rattle.ot_logic.proofs.TableLemmas.{Extends-refl}
 use Rattle.ot_nodes.proofs.TypingLemmas.{typings-grown}
 use Rattle.ot_rules.specs.Statements.{sequent_at}
 use Rattle.ot_log.proofs.Placed.{placed-later}

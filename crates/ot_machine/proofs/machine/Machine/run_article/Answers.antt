@@ -22,7 +22,7 @@ returns-in-Ok-None-clause-runs g c =
     let after = g.S.Source.left c.next.new.source in
     let taken = subst (λ r. TakesFrom r c.lines.lines c.next.follows.lender-at-none before after)
     (c.in-Ok-None.is ∙ ap Ok c.in-Ok-None.field-0-is) c.next.follows.holds-at-none.0 in
-    follows-end (context_of c.args.session.now c.args.ctx.now) c.args.max_bytes
+    follows-end (context_of c.args.session.now c.args.context.now) c.args.max_bytes
     (state_of c.args.session.now c.args.self.now) c.lines.session.kernel (state_of c.lines.session c.lines.self)
     c.lines.lines c.next.follows.lender-at-none (g.S.Source.left c.args.source.now) before after
     c.lines.invariant.so_far taken
@@ -33,7 +33,7 @@ returns-in-Ok-None-clause-spent g c =
     let after = g.S.Source.left c.next.new.source in
     let taken = subst (λ r. TakesFrom r c.lines.lines c.next.follows.lender-at-none before after)
     (c.in-Ok-None.is ∙ ap Ok c.in-Ok-None.field-0-is) c.next.follows.holds-at-none.0 in
-    follows-spent (context_of c.args.session.now c.args.ctx.now) c.args.max_bytes
+    follows-spent (context_of c.args.session.now c.args.context.now) c.args.max_bytes
     (state_of c.args.session.now c.args.self.now) (state_of c.lines.session c.lines.self) c.lines.lines
     c.next.follows.lender-at-none (g.S.Source.left c.args.source.now) before after c.lines.invariant.so_far taken
 
@@ -46,9 +46,9 @@ returns-in-Err-line-clause-runs g c =
     let now = state_of c.lines.session c.lines.self in
     let next = state_of c.line.new.session c.line.new.self in
     let same = context-kept c.args.session.now c.lines.session c.requires.of.run c.lines.invariant.grown
-    c.args.ctx.now c.requires.context in
+    c.args.context.now c.requires.context in
     rw c.refusal.ensures
-    (follows-refused (context_of c.args.session.now c.args.ctx.now) c.args.max_bytes
+    (follows-refused (context_of c.args.session.now c.args.context.now) c.args.max_bytes
     (state_of c.args.session.now c.args.self.now) c.line.new.session.kernel c.in-Err-line.fault
     (state_of c.lines.session c.lines.self) (state_of c.line.new.session c.line.new.self) c.lines.lines
     c.next.follows.lender-at-none c.in-Ok-Some.line (g.S.Source.left c.args.source.now) before after
@@ -63,15 +63,16 @@ lines-preserved g c =
     let taken = subst (λ r. TakesFrom r c.lines.lines c.next.follows.lender-at-none before after)
     (c.in-Ok-Some.is ∙ ap Ok c.in-Ok-Some.field-0-is) c.next.follows.holds-at-none.0 in
     let same = context-kept c.args.session.now c.lines.session c.requires.of.run c.lines.invariant.grown
-    c.args.ctx.now c.requires.context in
+    c.args.context.now c.requires.context in
     record {
-      so_far = follows-line (context_of c.args.session.now c.args.ctx.now) c.args.max_bytes
+      so_far = follows-line (context_of c.args.session.now c.args.context.now) c.args.max_bytes
           (state_of c.args.session.now c.args.self.now) (state_of c.lines.session c.lines.self)
           (state_of c.line.new.session c.line.new.self) c.lines.lines c.next.follows.lender-at-none c.in-Ok-Some.line
           (g.S.Source.left c.args.source.now) before after c.lines.invariant.so_far taken
           (ap (λ x. line_step x (state_of c.lines.session c.lines.self) c.in-Ok-Some.line.text.now) (sym same)
           ∙ c.in_default.ensures.moves);
-      led = leads-line (context_of c.args.session.now c.args.ctx.now) (state_of c.args.session.now c.args.self.now)
+      led = leads-line (context_of c.args.session.now c.args.context.now)
+          (state_of c.args.session.now c.args.self.now)
           (state_of c.lines.session c.lines.self) (state_of c.line.new.session c.line.new.self)
           c.in-Ok-Some.line.text.now
           (subst (λ r. IfOk r (λ o. IfSome o (λ line. IsLineText line.text.now)))
@@ -91,21 +92,21 @@ returns-in-Err-clause-runs g c =
     let taken = subst (λ r. TakesFrom r c.lines.lines c.next.follows.lender-at-none before after) c.in-Err.is
     c.next.follows.holds-at-none.0 in
     rw c.from.ensures
-    (follows-stopped (context_of c.args.session.now c.args.ctx.now) c.args.max_bytes
+    (follows-stopped (context_of c.args.session.now c.args.context.now) c.args.max_bytes
     (state_of c.args.session.now c.args.self.now) c.lines.session.kernel c.in-Err.fault
     (state_of c.lines.session c.lines.self) c.lines.lines c.next.follows.lender-at-none
     (g.S.Source.left c.args.source.now) before after c.lines.invariant.so_far taken)
 
 pub line-requires-clause-context : goal.line-requires-clause-context
 line-requires-clause-context g c = of_context-kept c.args.session.now c.lines.session c.requires.of.run
-    c.lines.invariant.grown c.args.ctx.now c.requires.context
+    c.lines.invariant.grown c.args.context.now c.requires.context
 
 pub returns-in-Err-line-clause-grown : goal.returns-in-Err-line-clause-grown
 returns-in-Err-line-clause-grown g c = grows-on c.lines.invariant.grown c.in-Err-line.ensures.grown
 
 pub returns-in-Err-line-clause-led : goal.returns-in-Err-line-clause-led
 returns-in-Err-line-clause-led g c =
-    subst (LeadsTo (context_of c.args.session.now c.args.ctx.now) (state_of c.args.session.now c.args.self.now))
+    subst (LeadsTo (context_of c.args.session.now c.args.context.now) (state_of c.args.session.now c.args.self.now))
     (sym c.in-Err-line.ensures.moves.0) c.lines.invariant.led
 
 pub returns-in-Err-line-clause-apart : goal.returns-in-Err-line-clause-apart

@@ -8,9 +8,9 @@ use Rattle.ot_machine.proofs.machine.Machine.run_article.Given as goal
 
 abbrev pub invariant-lines : goal.invariant-lines
 invariant-lines g l = record {
-  so_far : Follows (context_of l.fn.session l.ctx) l.max_bytes (state_of l.fn.session l.fn.self)
+  so_far : Follows (context_of l.fn.session l.context) l.max_bytes (state_of l.fn.session l.fn.self)
       (state_of l.session l.self) l.lines (g.S.Source.left l.fn.source) (g.S.Source.left l.source);
-  led : LeadsTo (context_of l.fn.session l.ctx) (state_of l.fn.session l.fn.self) (state_of l.session l.self);
+  led : LeadsTo (context_of l.fn.session l.context) (state_of l.fn.session l.fn.self) (state_of l.session l.self);
   of : IsOf l.session l.self;
   grown : Grows l.fn.session l.session;
   kept : KeepsSource g.S.Source.folder g.S.Source.faults g.S.Source.misses g.S.Source.at l.fn.source l.source;

@@ -1,7 +1,7 @@
 use Rattle.std.proofs.Common.{rules, ◌≡◌, ◌∙◌, ◌+◌, ◌-◌, ◌^◌, sym, ap}
 use Rattle.std.specs.Prelude.{min, Result, Ok}
-use Rattle.ot_plain.specs.Names.{Name}
-use Rattle.ot_plain.specs.Faults as faults
+use Rattle.ot_logic.specs.Names.{Name}
+use Rattle.ot_logic.specs.Faults as faults
 use Rattle.ot_scan.specs.Words.{word_value}
 use Rattle.ot_machine.specs.States.{State}
 use Rattle.ot_machine.specs.Meaning.{article_of, state_of, command_at, version_of}
@@ -16,26 +16,26 @@ use Rattle.ot_machine.proofs.machine.Machine.step.Goals.{In_ok-version}
 -- the command and the state as they were before the command's name was interned
 abbrev stated : In_ok-version → Result State (faults.Fault Name)
 stated c =
-    row (version_of c.in_ok-version.version) (context_of c.args.session.now c.args.ctx.now)
+    row (version_of c.in_ok-version.version) (context_of c.args.session.now c.args.context.now)
     (command_at c.command.new.self.kernel c.in_ok-command.command) (state_of c.args.session.now c.args.self.now)
 
 by_row : (c : In_ok-version)
-    → step (context_of c.args.session.now c.args.ctx.now) (state_of c.args.session.now c.args.self.now)
+    → step (context_of c.args.session.now c.args.context.now) (state_of c.args.session.now c.args.self.now)
     (word_value c.args.word) ≡ with_count (version_of c.in_ok-version.version) (stated c)
 by_row c =
-    stepped (context_of c.args.session.now c.args.ctx.now) (state_of c.args.session.now c.args.self.now)
+    stepped (context_of c.args.session.now c.args.context.now) (state_of c.args.session.now c.args.self.now)
     (word_value c.args.word) (command_at c.command.new.self.kernel c.in_ok-command.command)
     (version_of c.in_ok-version.version) c.in_ok-command.ensures.made
     (c.in_ok-version.ensures c.command.new.self.kernel)
 
 as_stated : (c : In_ok-version)
-    → row (version_of c.in_ok-version.version) (context_of c.command.new.self c.args.ctx.now)
+    → row (version_of c.in_ok-version.version) (context_of c.command.new.self c.args.context.now)
     (command_at c.command.new.self.kernel c.in_ok-command.command) (state_of c.command.new.self c.args.self.now)
     ≡ stated c
 as_stated c =
     let there = c.in_ok-command.ensures.kept in
     let context = context-kept c.args.session.now c.command.new.self c.requires.of.run
-    (record { kernel = there.machine.grown; trace = trace-same _ _ there.machine.trace }) c.args.ctx.now
+    (record { kernel = there.machine.grown; trace = trace-same _ _ there.machine.trace }) c.args.context.now
     c.requires.context in
     λ i. row (version_of c.in_ok-version.version) (context i)
     (command_at c.command.new.self.kernel c.in_ok-command.command)
@@ -74,5 +74,5 @@ pub row-requires-clause-context : goal.row-requires-clause-context
 row-requires-clause-context c =
     let there = c.in_ok-command.ensures.kept in
     of_context-kept c.args.session.now c.command.new.self c.requires.of.run
-    (record { kernel = there.machine.grown; trace = trace-same _ _ there.machine.trace }) c.args.ctx.now
+    (record { kernel = there.machine.grown; trace = trace-same _ _ there.machine.trace }) c.args.context.now
     c.requires.context

@@ -1,7 +1,7 @@
 use Rattle.std.specs.Bool.{Decides}
 use Rattle.std.proofs.Common.{false, sym, subst, ◌∙◌}
-use Rattle.ot_plain.specs.Naming.{names}
-use Rattle.ot_plain.specs.Hol.{IsFreeIn}
+use Rattle.ot_logic.specs.Naming.{names}
+use Rattle.ot_logic.specs.NamedTerms.{IsFreeIn}
 use Rattle.ot_kernel.specs.State.{variable_at, named_at}
 use Rattle.ot_machine.specs.declared.makers.occurrences.Occurrence.{Occurrence}
 use Rattle.ot_machine.proofs.Occurrences.{free-variable, free-bound, free-body, occurrences-insert}

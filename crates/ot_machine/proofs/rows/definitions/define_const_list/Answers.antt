@@ -3,11 +3,11 @@ use Rattle.std.specs.Prelude.{Ok}
 use Rattle.std.specs.List.{All}
 use Rattle.std.proofs.lemmas.List.Elements.{All-map}
 use Rattle.std.proofs.lemmas.Simd.{map-map}
-use Rattle.ot_plain.specs.Names.{Name}
-use Rattle.ot_plain.specs.Trees.{Variable}
-use Rattle.ot_plain.specs.Answers.{◌>>=◌}
+use Rattle.ot_logic.specs.Names.{Name}
+use Rattle.ot_logic.specs.Trees.{Variable}
+use Rattle.ot_logic.specs.Answers.{◌>>=◌}
 use Rattle.ot_term.specs.declared.term.VarKey.{VarKey}
-use Rattle.ot_plain.specs.Naming.{names}
+use Rattle.ot_logic.specs.Naming.{names}
 use Rattle.ot_interp.specs.Interpretation.{renamed}
 use Rattle.ot_kernel.specs.State.{State, name_at, variable_at, theorem_at}
 use Rattle.ot_machine.specs.Objects.{list, theorem}
@@ -76,7 +76,7 @@ list_definition-requires-clause-variables c =
 pub list_definition-requires-clause-context : goal.list_definition-requires-clause-context
 list_definition-requires-clause-context c =
     of_context-kept c.args.session.now c.symbol_list_step.new.self c.requires.of.run
-    (traces-grow _ _ _ c.in_ok-step.ensures.kept) c.args.ctx.now c.requires.context
+    (traces-grow _ _ _ c.in_ok-step.ensures.kept) c.args.context.now c.requires.context
 
 pub list_definition-requires-clause-list_origin : goal.list_definition-requires-clause-list_origin
 list_definition-requires-clause-list_origin c =
@@ -108,17 +108,17 @@ returns-in_err-theorem c =
     let there = c.in_err-theorem.ensures in
     let is = c.deref-5.result.now in
     let vs = c.deref-6.result.now in
-    let ctx = context_of s c.args.ctx.now in
-    let row = const_list-read ctx st (theorem_at k c.in_ok-premise.premise) _ _ (map (name_at k) is)
+    let context = context_of s c.args.context.now in
+    let row = const_list-read context st (theorem_at k c.in_ok-premise.premise) _ _ (map (name_at k) is)
     (map (variable_at k) vs) c.in_ok-premise.ensures.found c.in_ok-list.ensures.found c.in_ok-pairs.ensures.read
-    (names-read k ctx.interpretation.constants _ _ _ (c.in_ok-names.ensures.renamed
-    ∙ ap (map (renaming k ctx.interpretation.constants)) c.deref.ensures.value) c.deref-5.ensures.value)
+    (names-read k context.interpretation.constants _ _ _ (c.in_ok-names.ensures.renamed
+    ∙ ap (map (renaming k context.interpretation.constants)) c.deref.ensures.value) c.deref-5.ensures.value)
     (variables-read k _ _ (c.deref-6.ensures.value ∙ c.in_ok-variables.ensures
     ∙ ap (map variable_of) c.deref-2.ensures.value)) in
-    let same = list_stated-same s t0 m made c.args.ctx.now is vs c.in_ok-premise.premise traced.kernel
-    (context-kept s t0 c.requires.of.run grown c.args.ctx.now c.requires.context)
+    let same = list_stated-same s t0 m made c.args.context.now is vs c.in_ok-premise.premise traced.kernel
+    (context-kept s t0 c.requires.of.run grown c.args.context.now c.requires.context)
     (traced.article ∙ c.in_ok-constants.ensures.kept) traced.run in
-    refused-turn _ c.in_err-theorem.field-0.0 (define_const_list_row ctx) s m t made (search rules)
+    refused-turn _ c.in_err-theorem.field-0.0 (define_const_list_row context) s m t made (search rules)
     (λ i. record {
       article = (there.adds.article ∙ traced.article ∙ c.in_ok-constants.ensures.kept) i;
       run = (there.adds.refused ∙ traced.run) i;
@@ -145,15 +145,15 @@ returns c =
     let is = c.deref-5.result.now in
     let vs = c.deref-6.result.now in
     let ns = map (name_at k) is in
-    let ctx = context_of s c.args.ctx.now in
-    let row = const_list-read ctx st (theorem_at k c.in_ok-premise.premise) _ _ ns (map (variable_at k) vs)
+    let context = context_of s c.args.context.now in
+    let row = const_list-read context st (theorem_at k c.in_ok-premise.premise) _ _ ns (map (variable_at k) vs)
     c.in_ok-premise.ensures.found c.in_ok-list.ensures.found c.in_ok-pairs.ensures.read
-    (names-read k ctx.interpretation.constants _ _ _ (c.in_ok-names.ensures.renamed
-    ∙ ap (map (renaming k ctx.interpretation.constants)) c.deref.ensures.value) c.deref-5.ensures.value)
+    (names-read k context.interpretation.constants _ _ _ (c.in_ok-names.ensures.renamed
+    ∙ ap (map (renaming k context.interpretation.constants)) c.deref.ensures.value) c.deref-5.ensures.value)
     (variables-read k _ _ (c.deref-6.ensures.value ∙ c.in_ok-variables.ensures
     ∙ ap (map variable_of) c.deref-2.ensures.value)) in
-    let same = list_stated-same s t0 m made c.args.ctx.now is vs c.in_ok-premise.premise traced.kernel
-    (context-kept s t0 c.requires.of.run grown c.args.ctx.now c.requires.context)
+    let same = list_stated-same s t0 m made c.args.context.now is vs c.in_ok-premise.premise traced.kernel
+    (context-kept s t0 c.requires.of.run grown c.args.context.now c.requires.context)
     (traced.article ∙ c.in_ok-constants.ensures.kept) traced.run in
     let q : Entry =
     record {

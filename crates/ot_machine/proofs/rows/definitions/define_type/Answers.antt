@@ -1,6 +1,6 @@
 use Rattle.std.proofs.Common.{◌≡◌, rules, ◌∙◌, List, ◌∷◌, [], map, sym, ap}
 use Rattle.std.specs.Prelude.{Ok}
-use Rattle.ot_plain.specs.Answers.{◌>>=◌}
+use Rattle.ot_logic.specs.Answers.{◌>>=◌}
 use Rattle.ot_kernel.specs.State.{name_at, theorem_at}
 use Rattle.ot_machine.specs.Objects.{type_op, constant, theorem}
 use Rattle.ot_machine.specs.States.{Entry}
@@ -24,13 +24,13 @@ Symbols c =
 read : (c : After-deref) → (let s = c.args.session.now in
     let k = s.kernel in
     let st = state_of s c.args.machine.now in
-    define_type_row (version_of c.args.version) (context_of s c.args.ctx.now) st
+    define_type_row (version_of c.args.version) (context_of s c.args.context.now) st
     ≡ type_op_after (version_of c.args.version) st (theorem_at k c.in_ok-premise.premise)
     (map (name_at k) c.deref.result.now) (name_at k c.constant_named-rep.result)
     (name_at k c.constant_named-abs.result) (name_at k c.type_op_named-name.result))
 read c =
     let s = c.args.session.now in
-    type_op-read (context_of s c.args.ctx.now) (state_of s c.args.machine.now) _
+    type_op-read (context_of s c.args.context.now) (state_of s c.args.machine.now) _
     (map (name_at s.kernel) c.deref.result.now) _ _ _ _ _ _ c.in_ok-premise.ensures.found
     (c.in_ok-variables.ensures.found ∙ ap (λ is. Ok (map (name_at s.kernel) is)) (sym c.deref.ensures.value))
     c.in_ok-rep.ensures.found c.in_ok-abs.ensures.found c.in_ok-name.ensures.found
@@ -44,7 +44,7 @@ returns-in_err-defined c =
     let m = c.args.machine.now in
     let there = c.in_err-defined.ensures in
     refused-turn _ c.in_err-defined.field-0.0
-    (define_type_row (version_of c.args.version) (context_of s c.args.ctx.now)) s m c.type_definition.new.self m
+    (define_type_row (version_of c.args.version) (context_of s c.args.context.now)) s m c.type_definition.new.self m
     (search rules)
     (λ i. record { article = there.adds.article i; run = there.adds.refused i }) (
       there.made.0,

@@ -1,9 +1,9 @@
 use Rattle.std.proofs.Common.{rules, refl}
-use Rattle.ot_plain.specs.declared.command.Cmd.TheVariants as words
+use Rattle.ot_logic.specs.declared.command.Cmd.TheVariants as words
 use Rattle.ot_machine.proofs.Kept.{leaves}
 use Rattle.ot_machine.proofs.RuleRows.{turned}
 use Rattle.ot_machine.proofs.rows.terms.app_term.Goals as goal
-use Rattle.ot_plain.proofs.Results.{bind-to}
+use Rattle.ot_logic.proofs.Results.{bind-to}
 
 pub make_two-requires-clause-of : goal.make_two-requires-clause-of
 make_two-requires-clause-of c = (leaves _ _ _ c.requires c.app.ensures.keeps c.app.ensures.same.basis).machine.of

@@ -1,13 +1,13 @@
 use Rattle.std.proofs.Common.{rules, refl, ap, sym, ◌∙◌}
-use Rattle.ot_plain.specs.declared.command.Cmd.TheVariants as words
-use Rattle.ot_plain.specs.Naming.{names}
-use Rattle.ot_plain.specs.Rules.{op_rule}
+use Rattle.ot_logic.specs.declared.command.Cmd.TheVariants as words
+use Rattle.ot_logic.specs.Naming.{names}
+use Rattle.ot_logic.specs.Rules.{op_rule}
 use Rattle.ot_kernel.specs.State.{name_at, types_at}
 use Rattle.ot_machine.proofs.Elements.{types_at-arguments}
 use Rattle.ot_machine.proofs.Kept.{leaves}
 use Rattle.ot_machine.proofs.RuleRows.{turned}
 use Rattle.ot_machine.proofs.rows.terms.op_type.Goals as goal
-use Rattle.ot_plain.proofs.Results.{bind-to}
+use Rattle.ot_logic.proofs.Results.{bind-to}
 
 pub make_two-requires-clause-of : goal.make_two-requires-clause-of
 make_two-requires-clause-of c =

@@ -1,11 +1,11 @@
 use Rattle.std.proofs.Common.{rules, sym, ap}
-use Rattle.ot_plain.specs.declared.command.Cmd.TheVariants as words
+use Rattle.ot_logic.specs.declared.command.Cmd.TheVariants as words
 use Rattle.std.specs.Prelude.{Ok}
 use Rattle.ot_machine.specs.Objects.{term}
 use Rattle.ot_machine.proofs.Kept.{leaves}
 use Rattle.ot_machine.proofs.RuleRows.{turned}
 use Rattle.ot_machine.proofs.rows.terms.var_term.Goals as goal
-use Rattle.ot_plain.proofs.Results.{bind-to}
+use Rattle.ot_logic.proofs.Results.{bind-to}
 
 pub make_one-requires-clause-of : goal.make_one-requires-clause-of
 make_one-requires-clause-of c = (leaves _ _ _ c.requires c.var.ensures.keeps c.var.ensures.same.basis).machine.of

@@ -1,13 +1,13 @@
 use Rattle.std.proofs.Common.{rules, sym, ap}
-use Rattle.ot_plain.specs.declared.command.Cmd.TheVariants as words
+use Rattle.ot_logic.specs.declared.command.Cmd.TheVariants as words
 use Rattle.std.specs.Prelude.{Ok, []}
 use Rattle.std.proofs.lemmas.Option.{get_or_from_slice_get}
-use Rattle.ot_plain.specs.Trees.{TyVar}
+use Rattle.ot_logic.specs.Trees.{TyVar}
 use Rattle.ot_machine.specs.Objects.{a_type}
 use Rattle.ot_machine.proofs.Kept.{leaves}
 use Rattle.ot_machine.proofs.RuleRows.{turned}
 use Rattle.ot_machine.proofs.rows.terms.var_type.Goals as goal
-use Rattle.ot_plain.proofs.Results.{bind-to}
+use Rattle.ot_logic.proofs.Results.{bind-to}
 
 pub make_one-requires-clause-of : goal.make_one-requires-clause-of
 make_one-requires-clause-of c =

@@ -1,9 +1,9 @@
 use Rattle.std.proofs.Common.{refl}
-use Rattle.ot_plain.specs.declared.command.Cmd.TheVariants as words
+use Rattle.ot_logic.specs.declared.command.Cmd.TheVariants as words
 use Rattle.ot_machine.proofs.Kept.{leaves}
 use Rattle.ot_machine.proofs.RuleRows.{gives-inside, by-rule}
 use Rattle.ot_machine.proofs.rows.theorems.app_thm.Goals as goal
-use Rattle.ot_plain.proofs.Results.{bind-to}
+use Rattle.ot_logic.proofs.Results.{bind-to}
 
 pub conclude_two-requires-clause-of : goal.conclude_two-requires-clause-of
 conclude_two-requires-clause-of c =

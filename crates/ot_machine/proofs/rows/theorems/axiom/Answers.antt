@@ -1,6 +1,6 @@
 use Rattle.std.proofs.Common.{rules, ◌∙◌, map, sym, ap}
 use Rattle.std.specs.Prelude.{Ok}
-use Rattle.ot_plain.specs.Answers.{◌>>=◌}
+use Rattle.ot_logic.specs.Answers.{◌>>=◌}
 use Rattle.ot_kernel.specs.State.{term_at}
 use Rattle.ot_machine.specs.Places.{replaced}
 use Rattle.ot_machine.specs.Rows.{theorem_entry}
@@ -18,10 +18,10 @@ returns-in_err-given c =
     let m = c.args.machine.now in
     let st = state_of s m in
     let there = c.in_err-given.ensures in
-    let row = axiom-read (context_of s c.args.ctx.now) st _ _ _ (map (term_at k) c.deref.result.now)
+    let row = axiom-read (context_of s c.args.context.now) st _ _ _ (map (term_at k) c.deref.result.now)
     c.in_ok-concl.ensures.found c.in_ok-list.ensures.entry
     (c.in_ok-hyps.ensures.found ∙ ap (λ is. Ok (map (term_at k) is)) (sym c.deref.ensures.value)) in
-    refused-turn _ c.in_err-given.field-0.0 (axiom_row (context_of s c.args.ctx.now)) s m t m (search rules)
+    refused-turn _ c.in_err-given.field-0.0 (axiom_row (context_of s c.args.context.now)) s m t m (search rules)
     (λ i. record { article = there.adds.article i; run = there.adds.refused i }) (
       there.made.0,
       λ f p. row
@@ -39,7 +39,7 @@ returns c =
     let m = c.args.machine.now in
     let st = state_of s m in
     let there = c.in_ok-given.ensures in
-    let row = axiom-read (context_of s c.args.ctx.now) st _ _ _ (map (term_at k) c.deref.result.now)
+    let row = axiom-read (context_of s c.args.context.now) st _ _ _ (map (term_at k) c.deref.result.now)
     c.in_ok-concl.ensures.found c.in_ok-list.ensures.entry
     (c.in_ok-hyps.ensures.found ∙ ap (λ is. Ok (map (term_at k) is)) (sym c.deref.ensures.value)) in
     let e = theorem_entry (given_of t c.in_ok-given.given) in

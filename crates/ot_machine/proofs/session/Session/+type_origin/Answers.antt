@@ -2,7 +2,7 @@ use Rattle.std.proofs.Common.{◌<◌, ℕ, [], ◌∷◌, map, refl, sym, ap, s
 use Rattle.std.specs.List.{All}
 use Rattle.std.proofs.lemmas.List.{take_at}
 use Rattle.std.proofs.lemmas.List.Elements.{All-take, All-nil, All-cons}
-use Rattle.ot_plain.specs.declared.command.Cmd.TheVariants as words
+use Rattle.ot_logic.specs.declared.command.Cmd.TheVariants as words
 use Rattle.ot_kernel.specs.State.{type_at, types_at}
 use Rattle.ot_trace.specs.Origins.{Named, make_two, type_op_origin}
 use Rattle.ot_machine.specs.RenamedLists.{list_onto}

@@ -1,8 +1,8 @@
 use Rattle.std.specs.Prelude.{List}
 use Rattle.std.proofs.Common.{refl}
-use Rattle.ot_plain.specs.Names.{Name}
-use Rattle.ot_plain.specs.Trees.{Definition}
-use Rattle.ot_plain.specs.Naming.{names}
+use Rattle.ot_logic.specs.Names.{Name}
+use Rattle.ot_logic.specs.Trees.{Definition}
+use Rattle.ot_logic.specs.Naming.{names}
 use Rattle.ot_kernel.specs.State.{name_at, term_at}
 use Rattle.ot_kernel.specs.Defining.{Defining, const_definition}
 use Rattle.ot_machine.proofs.Defined.{const-theorem}

@@ -1,9 +1,9 @@
 use Rattle.std.specs.Prelude.{List, [], map, Ok}
 use Rattle.std.proofs.Common.{refl, ap, ◌∙◌}
-use Rattle.ot_plain.specs.Names.{Name}
-use Rattle.ot_plain.specs.Naming.{names}
-use Rattle.ot_plain.specs.Trees.{Sequent, TyOp, Bound}
-use Rattle.ot_plain.specs.Hol.{HasType, bool_ty, tys_of_vars}
+use Rattle.ot_logic.specs.Names.{Name}
+use Rattle.ot_logic.specs.Naming.{names}
+use Rattle.ot_logic.specs.Trees.{Sequent, TyOp, Bound}
+use Rattle.ot_logic.specs.Hol.{HasType, bool_ty, tys_of_vars}
 use Rattle.ot_kernel.specs.State.{name_at, theorem_at}
 use Rattle.ot_kernel.specs.Defining.{type_definition}
 use Rattle.ot_machine.specs.OpenTypes.{first_origin, second_origin, open_entries}

@@ -1,9 +1,9 @@
 use Rattle.std.proofs.Common.{rules, ◌≡◌, ◌<◌, length, ap, sym, subst, ◌∙◌}
-use Rattle.ot_plain.specs.Names.{Name}
-use Rattle.ot_plain.specs.Naming.{names}
-use Rattle.ot_plain.specs.Trees.{Sequent}
-use Rattle.ot_plain.specs.Rules.{deduct_antisym_rule, eq_mp_rule}
-use Rattle.ot_plain.specs.declared.command.Cmd.TheVariants as words
+use Rattle.ot_logic.specs.Names.{Name}
+use Rattle.ot_logic.specs.Naming.{names}
+use Rattle.ot_logic.specs.Trees.{Sequent}
+use Rattle.ot_logic.specs.Rules.{deduct_antisym_rule, eq_mp_rule}
+use Rattle.ot_logic.specs.declared.command.Cmd.TheVariants as words
 use Rattle.ot_kernel.specs.State.{term_at, theorem_at}
 use Rattle.ot_trace.specs.Origins.{make_one, make_two}
 use Rattle.ot_machine.specs.Answers.{Makes}

@@ -1,7 +1,7 @@
 use Rattle.std.specs.Prelude.{List, map}
 use Rattle.std.proofs.Common.{refl, ◌∙◌}
-use Rattle.ot_plain.specs.Names.{Name}
-use Rattle.ot_plain.specs.Trees.{Tm}
+use Rattle.ot_logic.specs.Names.{Name}
+use Rattle.ot_logic.specs.Trees.{Tm}
 use Rattle.ot_kernel.specs.State.{term_at}
 use Rattle.ot_machine.specs.Meaning.{run_of, origin_of}
 use Rattle.ot_machine.proofs.Staying.{stays-adds}

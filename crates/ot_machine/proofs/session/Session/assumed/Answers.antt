@@ -1,7 +1,7 @@
 use Rattle.std.proofs.Common.{◌≡◌, ap, sym, ◌∙◌, arith, map, length, drop, ◌<◌, ◌+◌, ◌∷◌}
 use Rattle.std.proofs.lemmas.List.{length-map}
-use Rattle.ot_plain.specs.Names.{Name}
-use Rattle.ot_plain.specs.Trees.{Sequent}
+use Rattle.ot_logic.specs.Names.{Name}
+use Rattle.ot_logic.specs.Trees.{Sequent}
 use Rattle.ot_kernel.specs.State.{term_at, theorem_at}
 use Rattle.ot_machine.specs.Meaning.{run_of, givens_of, origin_of}
 use Rattle.ot_machine.specs.Rows.{given_as}

@@ -1,6 +1,6 @@
 use Rattle.std.specs.Prelude.{Ok, Err, MatchBool}
 use Rattle.std.proofs.Common.{◌≡◌, refl, map, ap, sym, subst, ◌∙◌}
-use Rattle.ot_plain.specs.Faults as faults
+use Rattle.ot_logic.specs.Faults as faults
 use Rattle.ot_kernel.specs.Axioms.{axiom_rule}
 use Rattle.ot_kernel.specs.State.{term_at}
 use Rattle.ot_machine.specs.declared.fault.Fault.TheVariants as code
@@ -23,7 +23,7 @@ returns-then-not-proper-clause-made c =
     let rule = subst (λ b. MatchBool b (axiom_rule hs p ≡ Ok (once hs p)) (axiom_rule hs p ≡ Err faults.NotBool))
     c.if-not-proper.true c.in_ok-proper.ensures.proper in
     refuses-named c.is_proper.new.self.kernel code.NotBool faults.NotBool _ (λ read. refl) tt
-    (used-refused (context_of s c.args.ctx.now) (run_of s) hs p (origin_of s c.args.list_step)
+    (used-refused (context_of s c.args.context.now) (run_of s) hs p (origin_of s c.args.list_step)
     (origins_of (top 2 (article_of s c.args.machine.now).stack)) faults.NotBool rule)
 
 pub returns-then-not-proper-clause-adds : goal.returns-then-not-proper-clause-adds
@@ -31,7 +31,7 @@ returns-then-not-proper-clause-adds c = stays-adds _ c.in_ok-proper.ensures.stay
 
 pub proper_axiom-requires-clause-context : goal.proper_axiom-requires-clause-context
 proper_axiom-requires-clause-context c = of_context-kept c.args.self.now c.is_proper.new.self c.requires.of.run
-    c.in_ok-proper.ensures.stays.grown c.args.ctx.now c.requires.context
+    c.in_ok-proper.ensures.stays.grown c.args.context.now c.requires.context
 
 pub proper_axiom-requires-clause-hyps : goal.proper_axiom-requires-clause-hyps
 proper_axiom-requires-clause-hyps c = terms-inside c.args.self.now c.is_proper.new.self c.args.machine.now
@@ -58,8 +58,8 @@ returns-clause-made c =
     let u = c.proper_axiom.new.self in
     let m = c.args.machine.now in
     let stays = c.in_ok-proper.ensures.stays in
-    let same = used-same (context_of t c.args.ctx.now) (context_of s c.args.ctx.now) _ _ _ _ _ _ _ _ _ _
-    (context-kept s t c.requires.of.run stays.grown c.args.ctx.now c.requires.context)
+    let same = used-same (context_of t c.args.context.now) (context_of s c.args.context.now) _ _ _ _ _ _ _ _ _ _
+    (context-kept s t c.requires.of.run stays.grown c.args.context.now c.requires.context)
     (stays-terms s t m c.requires.of stays c.args.hyps.now c.requires.hyps)
     (stays-term s t m c.requires.of stays c.args.concl c.requires.concl)
     (stays-origin s t m c.requires.of stays c.args.list_step c.requires.list_step)

@@ -1,5 +1,5 @@
 use Rattle.std.proofs.Common.{◌∙◌}
-use Rattle.ot_plain.specs.declared.command.Cmd.TheVariants as words
+use Rattle.ot_logic.specs.declared.command.Cmd.TheVariants as words
 use Rattle.ot_trace.specs.Origins.{Named, make_two}
 use Rattle.ot_machine.proofs.Kept.{origin-kept}
 use Rattle.ot_machine.proofs.Staying.{leaves-stay}

@@ -1,9 +1,9 @@
 use Rattle.std.proofs.Common.{◌≡◌, ◌++◌, length}
 use Rattle.std.specs.List.{All}
-use Rattle.ot_plain.specs.Names.{Name}
-use Rattle.ot_plain.specs.Trees.{Variable}
-use Rattle.ot_plain.specs.Hol.{IsFreeIn}
-use Rattle.ot_plain.specs.Naming.{names}
+use Rattle.ot_logic.specs.Names.{Name}
+use Rattle.ot_logic.specs.Trees.{Variable}
+use Rattle.ot_logic.specs.NamedTerms.{IsFreeIn}
+use Rattle.ot_logic.specs.Naming.{names}
 use Rattle.ot_kernel.specs.State.{named_at}
 use Rattle.ot_machine.specs.Occurrences.{AreOccurrences}
 use Rattle.ot_machine.specs.Canonical.{variable_in, binders_at, IsBinderIn}

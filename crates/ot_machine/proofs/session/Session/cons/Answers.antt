@@ -1,6 +1,6 @@
 use Rattle.std.proofs.Common.{◌≡◌, ◌≤◌, ◌∙◌, ap, sym, length, arith}
 use Rattle.std.specs.Prelude.{Ok}
-use Rattle.ot_plain.specs.Hol.{depth_limit}
+use Rattle.ot_logic.specs.Hol.{depth_limit}
 use Rattle.ot_machine.specs.Objects.{list, nesting}
 use Rattle.ot_machine.specs.Meaning.{list_at, cell_of, lists_of, object_of}
 use Rattle.ot_machine.specs.declared.object.Cell.{Cell}

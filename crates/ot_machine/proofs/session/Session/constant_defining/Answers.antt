@@ -1,5 +1,5 @@
 use Rattle.std.proofs.Common.{◌∷◌, [], ap, sym, ◌∙◌}
-use Rattle.ot_plain.specs.declared.command.Cmd.TheVariants as words
+use Rattle.ot_logic.specs.declared.command.Cmd.TheVariants as words
 use Rattle.ot_trace.specs.Origins.{Named, Define, NoOrigins, MoreOrigins, constant_origin}
 use Rattle.ot_machine.proofs.Traced.{traces-on, traced-origin, origin-number}
 use Rattle.ot_machine.proofs.session.Session.constant_defining.Goals as goal

@@ -1,6 +1,6 @@
 use Rattle.std.specs.Prelude.{Ok}
 use Rattle.std.proofs.Common.{rules, ◌∷◌, [], ap, sym, subst, ◌∙◌}
-use Rattle.ot_plain.specs.declared.command.Cmd.TheVariants as words
+use Rattle.ot_logic.specs.declared.command.Cmd.TheVariants as words
 use Rattle.ot_kernel.specs.State.{name_at, theorem_at}
 use Rattle.ot_trace.specs.Origins.{Named, Define, Outcome, from_list}
 use Rattle.ot_machine.specs.Objects.{theorem}

@@ -1,5 +1,5 @@
 use Rattle.std.proofs.Common.{◌∙◌, arith}
-use Rattle.ot_plain.specs.Naming.{names}
+use Rattle.ot_logic.specs.Naming.{names}
 use Rattle.ot_kernel.specs.State.{name_at}
 use Rattle.ot_machine.specs.OpenTypes.{fun_origin, bool_origin, constant_at}
 use Rattle.ot_machine.proofs.Traced.{traces-on, traced-origin}

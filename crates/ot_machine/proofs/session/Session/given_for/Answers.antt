@@ -11,7 +11,7 @@ pub returns-in-Some-clause-first : goal.returns-in-Some-clause-first
 returns-in-Some-clause-first c =
     let s = c.args.self.now in
     let q = stated (map (term_at s.kernel) c.args.hyps.now) (term_at s.kernel c.args.concl) in
-    let gs = c.args.ctx.now.theorems.now in
+    let gs = c.args.context.now.theorems.now in
     let none = (c.in-Some.ensures (concls_of s.kernel (map (λ g. g.th) gs)) c.requires.context.placed).1 in
     c.first_given.ensures.first ∙ ap (λ xs. given_for q (map (given_of s) xs)) (behind c.in-Some.place gs)
     ∙ sym (context-past s q gs c.in-Some.place none)
@@ -20,5 +20,5 @@ pub returns-in-None-clause-first : goal.returns-in-None-clause-first
 returns-in-None-clause-first c =
     let s = c.args.self.now in
     let q = stated (map (term_at s.kernel) c.args.hyps.now) (term_at s.kernel c.args.concl) in
-    let gs = c.args.ctx.now.theorems.now in
+    let gs = c.args.context.now.theorems.now in
     sym (context-none s q gs (c.in-None.ensures (concls_of s.kernel (map (λ g. g.th) gs)) c.requires.context.placed))

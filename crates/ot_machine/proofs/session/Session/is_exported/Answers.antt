@@ -1,7 +1,7 @@
 use Rattle.std.specs.List.{All}
 use Rattle.std.proofs.Common.{false, map, take, ap, subst, sym, ◌≡◌, ◌∙◌}
-use Rattle.ot_plain.specs.Naming.{names}
-use Rattle.ot_plain.specs.Hol.{same_tm}
+use Rattle.ot_logic.specs.Naming.{names}
+use Rattle.ot_logic.specs.Hol.{same_tm}
 use Rattle.ot_kernel.specs.State.{theorem_at}
 use Rattle.ot_machine.specs.Meaning.{export_of, concls_of}
 use Rattle.ot_machine.specs.Rows.{is_exported}

@@ -1,6 +1,6 @@
 use Rattle.std.proofs.Common.{◌<◌, length, map, ap, sym, subst, ◌∙◌}
 use Rattle.std.specs.List.{All}
-use Rattle.ot_plain.specs.declared.command.Cmd.TheVariants as words
+use Rattle.ot_logic.specs.declared.command.Cmd.TheVariants as words
 use Rattle.ot_trace.specs.Origins.{Define, NoOrigins, MoreOrigins}
 use Rattle.ot_trace.specs.Trace.{origin_at}
 use Rattle.ot_machine.proofs.Traced.{traces-on, traced-origin}

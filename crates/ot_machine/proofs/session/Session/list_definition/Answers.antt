@@ -1,7 +1,7 @@
 use Rattle.std.specs.Prelude.{Ok}
 use Rattle.std.proofs.Common.{rules, ◌∷◌, [], ap, sym, subst, ◌∙◌}
-use Rattle.ot_plain.specs.Naming.{names}
-use Rattle.ot_plain.specs.declared.command.Cmd.TheVariants as words
+use Rattle.ot_logic.specs.Naming.{names}
+use Rattle.ot_logic.specs.declared.command.Cmd.TheVariants as words
 use Rattle.ot_interp.specs.Interpretation.{renamed}
 use Rattle.ot_kernel.specs.State.{theorem_at}
 use Rattle.ot_trace.specs.Origins.{Define, Outcome, from_list, renamed_pairs}
@@ -50,7 +50,7 @@ returns-in_err-theorem-clause-made c =
     let two = c.in_ok-step.ensures.kept in
     let traced = traces-on s t1 t2 m one two in
     let j = c.in_ok-definition.definition in
-    let read = renamed_pairs (renamed names (context_of s c.args.ctx.now).interpretation.constants) in
+    let read = renamed_pairs (renamed names (context_of s c.args.context.now).interpretation.constants) in
     let origin = traced-origin t1 t2 m one.of two j c.in_ok-definition.ensures.inside
     ∙ c.in_ok-definition.ensures.made
     ∙ (λ i. Define words.DefineConstList
@@ -72,7 +72,7 @@ returns-clause-made c =
     let traced = traces-on s t1 t2 m one two in
     let j = c.in_ok-definition.definition in
     let there = c.in_ok-theorem.ensures in
-    let read = renamed_pairs (renamed names (context_of s c.args.ctx.now).interpretation.constants) in
+    let read = renamed_pairs (renamed names (context_of s c.args.context.now).interpretation.constants) in
     let later = traced-origin t1 t2 m one.of two j c.in_ok-definition.ensures.inside in
     let origin = later ∙ c.in_ok-definition.ensures.made
     ∙ (λ i. Define words.DefineConstList

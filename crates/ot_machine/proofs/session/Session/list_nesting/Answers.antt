@@ -1,5 +1,5 @@
 use Rattle.std.proofs.Common.{◌≡◌, ◌<◌, ◌≤◌, length, subst, sym, ap, ◌∙◌}
-use Rattle.ot_plain.specs.Hol.{depth_limit}
+use Rattle.ot_logic.specs.Hol.{depth_limit}
 use Rattle.ot_machine.specs.Objects.{list, nesting}
 use Rattle.ot_machine.specs.Meaning.{list_at, lists_of, IsListIn}
 use Rattle.ot_machine.specs.declared.object.List.TheVariants.{Cell}

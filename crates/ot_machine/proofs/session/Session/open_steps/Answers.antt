@@ -1,10 +1,11 @@
 use Rattle.std.specs.Prelude.{◌≡◌, map}
 use Rattle.std.proofs.Common.{ap, sym, ◌∙◌}
-use Rattle.ot_plain.specs.Names.{Name}
-use Rattle.ot_plain.specs.Naming.{names}
-use Rattle.ot_plain.specs.Trees.{Ty, TyOp, NApp}
-use Rattle.ot_plain.specs.Hol.{type_of, nameless, tys_of_vars}
-use Rattle.ot_plain.specs.declared.command.Cmd.TheVariants as words
+use Rattle.ot_logic.specs.Names.{Name}
+use Rattle.ot_logic.specs.Naming.{names}
+use Rattle.ot_logic.specs.Trees.{Ty, TyOp, NApp}
+use Rattle.ot_logic.specs.Hol.{type_of, tys_of_vars}
+use Rattle.ot_logic.specs.NamedTerms.{nameless}
+use Rattle.ot_logic.specs.declared.command.Cmd.TheVariants as words
 use Rattle.ot_kernel.specs.State.{name_at, type_at, named_at, theorem_at}
 use Rattle.ot_trace.specs.Origins.{Named, make_two, type_op_origin}
 use Rattle.ot_machine.specs.OpenTypes.{fun_origin, bool_origin, constant_at, returned_origin}

@@ -1,7 +1,7 @@
 use Rattle.std.specs.Prelude.{[]}
 use Rattle.std.proofs.Common.{rules, refl, ◌∙◌}
 use Rattle.std.proofs.lemmas.Option.{get_or_from_slice_get}
-use Rattle.ot_plain.specs.declared.command.Cmd.TheVariants as words
+use Rattle.ot_logic.specs.declared.command.Cmd.TheVariants as words
 use Rattle.ot_trace.specs.Origins.{make_one, make_two}
 use Rattle.ot_machine.specs.Version5.{app}
 use Rattle.ot_machine.specs.OpenTypes.{variable_at, term_of, redex, composed, outcome_at, reduced}

@@ -2,8 +2,8 @@ use Rattle.std.proofs.Common.{rules, ◌<◌, ℕ, [], ◌∷◌, length, map, s
 use Rattle.std.specs.List.{All}
 use Rattle.std.proofs.lemmas.List.{map-append}
 use Rattle.std.proofs.lemmas.List.Elements.{All-push}
-use Rattle.ot_plain.specs.Names.{Name}
-use Rattle.ot_plain.specs.Trees.{Variable}
+use Rattle.ot_logic.specs.Names.{Name}
+use Rattle.ot_logic.specs.Trees.{Variable}
 use Rattle.ot_term.specs.declared.term.VarKey.{VarKey}
 use Rattle.ot_kernel.specs.State.{State, name_at, variable_at}
 use Rattle.ot_machine.specs.Places.{as_each}

@@ -14,7 +14,7 @@ pub returns-in-Some-clause-made : goal.returns-in-Some-clause-made
 returns-in-Some-clause-made c =
     let s = c.args.self.now in
     let t = c.weakened.new.self in
-    let is = used-given (context_of s c.args.ctx.now) (run_of s) (map (term_at s.kernel) c.args.hyps.now)
+    let is = used-given (context_of s c.args.context.now) (run_of s) (map (term_at s.kernel) c.args.hyps.now)
     (term_at s.kernel c.args.concl) (origin_of s c.args.list_step)
     (origins_of (top 2 (article_of s c.args.machine.now).stack)) c.requires.proper
     (given_of s c.in-Some.given) (rw c.in-Some.is at c.given_for.ensures.first) in
@@ -25,7 +25,7 @@ returns-in-Some-clause-made c =
 pub returns-in-Some-assumed-clause-made : goal.returns-in-Some-assumed-clause-made
 returns-in-Some-assumed-clause-made c =
     let s = c.args.self.now in
-    used-there (context_of s c.args.ctx.now) (run_of s) (map (term_at s.kernel) c.args.hyps.now)
+    used-there (context_of s c.args.context.now) (run_of s) (map (term_at s.kernel) c.args.hyps.now)
     (term_at s.kernel c.args.concl) (origin_of s c.args.list_step)
     (origins_of (top 2 (article_of s c.args.machine.now).stack)) c.requires.proper
     (given_of s c.in-Some-assumed.given) (rw c.in_default.is at c.given_for.ensures.first)
@@ -41,7 +41,7 @@ pub returns-clause-made : goal.returns-clause-made
 returns-clause-made c =
     let s = c.args.self.now in
     let t = c.assume_stated.new.self in
-    let is = used-assumes (context_of s c.args.ctx.now) (run_of s) (map (term_at s.kernel) c.args.hyps.now)
+    let is = used-assumes (context_of s c.args.context.now) (run_of s) (map (term_at s.kernel) c.args.hyps.now)
     (term_at s.kernel c.args.concl) (origin_of s c.args.list_step)
     (origins_of (top 2 (article_of s c.args.machine.now).stack)) c.requires.proper
     (rw c.in_default.is at c.given_for.ensures.first) (rw c.in_default-assumed.is at c.assumed.ensures.first) in

@@ -1,5 +1,5 @@
 use Rattle.std.proofs.Common.{rules, ◌∙◌}
-use Rattle.ot_plain.specs.declared.command.Cmd.TheVariants as words
+use Rattle.ot_logic.specs.declared.command.Cmd.TheVariants as words
 use Rattle.ot_trace.specs.Origins.{make_one, make_two}
 use Rattle.ot_machine.proofs.Traced.{traces-on, traced-origin}
 use Rattle.ot_machine.proofs.session.Session.reduced_step.Goals as goal

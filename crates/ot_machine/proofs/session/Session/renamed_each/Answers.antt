@@ -1,5 +1,5 @@
 use Rattle.std.proofs.Common.{◌<◌, ◌∙◌, length, arith}
-use Rattle.ot_plain.specs.Naming.{names}
+use Rattle.ot_logic.specs.Naming.{names}
 use Rattle.ot_interp.specs.Interpretation.{renamed}
 use Rattle.ot_trace.specs.Origins.{renamed_first}
 use Rattle.ot_machine.specs.Contexts.{context_of}
@@ -16,7 +16,7 @@ renamed_begin-requires-clause-context c =
     let s = c.args.self.now in
     let t = c.loop-pair.self in
     of_context-kept s t c.requires.of.run (traces-grow s t c.args.machine.now c.loop-pair.invariant.kept)
-    c.args.ctx.now c.requires.context
+    c.args.context.now c.requires.context
 
 pub renamed_begin-requires-clause-inside : goal.renamed_begin-requires-clause-inside
 renamed_begin-requires-clause-inside c =
@@ -36,7 +36,8 @@ loop-pair-preserved c =
     let pair = c.pair-item.result in
     let here = item-inside (λ i. i < length s.trace) c.args.pairs.now c.loop-pair.pair-index pair c.requires.inside
     c.loop-pair-test.true c.pair-item.is in
-    let context = context-kept s t c.requires.of.run (traces-grow s t m before) c.args.ctx.now c.requires.context in
+    let context = context-kept s t c.requires.of.run (traces-grow s t m before) c.args.context.now
+    c.requires.context in
     let origin = traced-origin s t m c.requires.of before pair here in
     let read = λ (x : Context). renamed names x.interpretation.constants in
     record {
@@ -44,7 +45,7 @@ loop-pair-preserved c =
       inside = more-inside (length t.trace) (length u.trace) steps _ c.in_ok-step.step one.grown.longer
           c.loop-pair.invariant.inside c.in_ok-step.ensures.inside c.in_ok-push.ensures.items;
       made =
-          one-more (origin_of u) (λ i. renamed_first (read (context_of s c.args.ctx.now)) (origin_of s i)) steps _
+          one-more (origin_of u) (λ i. renamed_first (read (context_of s c.args.context.now)) (origin_of s i)) steps _
           c.in_ok-step.step c.args.pairs.now c.loop-pair.pair-index pair c.loop-pair-test.true c.pair-item.is
           c.in_ok-push.ensures.items
           (origins-later t u m before.of one steps c.loop-pair.invariant.inside ∙ c.loop-pair.invariant.made)

@@ -10,5 +10,5 @@ invariant-loop-pair l = record {
   kept : Traces l.fn.self l.self l.machine;
   inside : All (λ i. i < length l.self.trace) l.steps.items;
   made : map (origin_of l.self) l.steps.items
-      ≡ map (λ i. renamed_first (read_by l.fn.self l.ctx) (origin_of l.fn.self i)) (take l.pair-index l.pairs);
+      ≡ map (λ i. renamed_first (read_by l.fn.self l.context) (origin_of l.fn.self i)) (take l.pair-index l.pairs);
 }

@@ -1,6 +1,6 @@
 use Rattle.std.proofs.Common.{ℕ, ◌<◌, map, sym, ap, subst, ◌∙◌, length, arith}
 use Rattle.std.specs.List.{All}
-use Rattle.ot_plain.specs.Naming.{names}
+use Rattle.ot_logic.specs.Naming.{names}
 use Rattle.ot_interp.specs.Interpretation.{renamed}
 use Rattle.ot_trace.specs.Origins.{elements, renamed_first, operand, constant_origin}
 use Rattle.ot_trace.specs.Trace.{origin_at}
@@ -67,7 +67,7 @@ returns-clause-made c =
     let one = c.in_ok-pairs.ensures.kept in
     let two = c.in_ok-list.ensures.kept in
     let three = c.in_ok-symbols.ensures.kept in
-    let f = renamed names (context_of s c.args.ctx.now).interpretation.constants in
+    let f = renamed names (context_of s c.args.context.now).interpretation.constants in
     let found = c.in_ok-found.found.items in
     let end = c.in_ok-found.end in
     let pairs = c.in_ok-pairs.pairs.items in

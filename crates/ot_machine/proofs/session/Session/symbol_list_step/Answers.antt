@@ -2,7 +2,7 @@ use Rattle.std.proofs.Common.{◌<◌, ℕ, [], ◌∷◌, map, refl, sym, ap, s
 use Rattle.std.specs.List.{All}
 use Rattle.std.proofs.lemmas.List.{take_at}
 use Rattle.std.proofs.lemmas.List.Elements.{All-take}
-use Rattle.ot_plain.specs.declared.command.Cmd.TheVariants as words
+use Rattle.ot_logic.specs.declared.command.Cmd.TheVariants as words
 use Rattle.ot_kernel.specs.State.{name_at}
 use Rattle.ot_trace.specs.Origins.{Named, make_one, make_two}
 use Rattle.ot_machine.specs.RenamedLists.{list_onto}

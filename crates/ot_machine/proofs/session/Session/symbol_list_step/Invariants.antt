@@ -1,6 +1,6 @@
 use Rattle.std.proofs.Common.{◌≡◌, ◌<◌, ℕ, length, map}
 use Rattle.std.specs.List.{All}
-use Rattle.ot_plain.specs.declared.command.Cmd.TheVariants as words
+use Rattle.ot_logic.specs.declared.command.Cmd.TheVariants as words
 use Rattle.ot_kernel.specs.State.{name_at}
 use Rattle.ot_trace.specs.Origins.{Named, Make, NoOrigins, make_one}
 use Rattle.ot_machine.specs.RenamedLists.{list_onto}

@@ -1,5 +1,5 @@
 use Rattle.std.proofs.Common.{◌∷◌, [], ap, sym, ◌∙◌, arith}
-use Rattle.ot_plain.specs.declared.command.Cmd.TheVariants as words
+use Rattle.ot_logic.specs.declared.command.Cmd.TheVariants as words
 use Rattle.ot_trace.specs.Origins.{Named, Define, NoOrigins, MoreOrigins, constant_origin, type_op_origin}
 use Rattle.ot_machine.proofs.Traced.{traces-on, traced-origin, number-later, origin-number}
 use Rattle.ot_machine.proofs.session.Session.type_defining.Goals as goal

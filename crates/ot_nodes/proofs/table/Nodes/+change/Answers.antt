@@ -7,7 +7,7 @@ use Rattle.ot_nodes.proofs.ItemLemmas.{has-type, has-term, term-stays, still-ter
 use Rattle.ot_nodes.proofs.MapLemmas.{still-change, changing-stays, changed-insert, done-now}
 use Rattle.ot_nodes.proofs.ChangeLemmas.{changed-application, changed-abstraction, changed-constant, changed-place}
 use Rattle.ot_nodes.proofs.table.Nodes.+change.Goals as goal
-use Rattle.ot_plain.proofs.Results.{on_ok}
+use Rattle.ot_logic.proofs.Results.{on_ok}
 
 pub change_at-returns-in-Some-clause-ok : goal.change_at-returns-in-Some-clause-ok
 change_at-returns-in-Some-clause-ok t c =

@@ -2,10 +2,10 @@ use Rattle.std.proofs.Common.{◌≡◌, ◌∙◌, ◌<◌, ◌+◌, ◌∷◌,
 use Rattle.std.proofs.Common.{Some, sym, ap, subst, arith, add-one}
 use Rattle.std.proofs.Math.Seq.{take-suc}
 use Rattle.std.proofs.lemmas.Result.{IfOk-weaker}
-use Rattle.ot_plain.specs.Naming.{names}
-use Rattle.ot_plain.specs.Trees.{TyOp}
-use Rattle.ot_plain.specs.Hol.{inst}
-use Rattle.ot_plain.proofs.TableLemmas.{Extends-trans}
+use Rattle.ot_logic.specs.Naming.{names}
+use Rattle.ot_logic.specs.Trees.{TyOp}
+use Rattle.ot_logic.specs.Hol.{inst}
+use Rattle.ot_logic.proofs.TableLemmas.{Extends-trans}
 use Rattle.ot_nodes.specs.Items.{TypeItem, IsType, name_at, type_at, types_at}
 use Rattle.ot_nodes.specs.Changing.{type_map, HasInstances}
 use Rattle.ot_nodes.specs.Table.{type_tree, HasTypeParts}
@@ -13,7 +13,7 @@ use Rattle.ot_nodes.proofs.ItemLemmas.{name-stays, type-stays, still-type, still
 use Rattle.ot_nodes.proofs.MapLemmas.{type_map-stays, still-types_of, instances-insert, instances-now}
 use Rattle.ot_nodes.proofs.InstanceLemmas.{instance-found, instance-kept, instances-push, instance-operator}
 use Rattle.ot_nodes.proofs.table.Nodes.+inst.Goals as goal
-use Rattle.ot_plain.proofs.Results.{on_ok}
+use Rattle.ot_logic.proofs.Results.{on_ok}
 
 pub inst-returns-clause-done : goal.inst-returns-clause-done
 inst-returns-clause-done t c =

@@ -1,6 +1,6 @@
 use Rattle.std.proofs.Common.{◌+◌, ◌*◌, take}
 use Rattle.std.specs.List.{All}
-use Rattle.ot_plain.specs.Table.{Extends}
+use Rattle.ot_logic.specs.Table.{Extends}
 use Rattle.ot_nodes.specs.Items.{HasType}
 use Rattle.ot_nodes.specs.Changing.{type_map, HasTypes, AreInstances, HasInstances}
 use Rattle.ot_nodes.proofs.table.Nodes.+inst.Given as goal

@@ -1,8 +1,8 @@
 use Rattle.std.proofs.Common.{◌∙◌, ◌∷◌, List, refl, sym, ap, subst}
 use Rattle.std.specs.List.{All}
 use Rattle.std.proofs.lemmas.Result.{IfOk-weaker}
-use Rattle.ot_plain.specs.Names.{Name}
-use Rattle.ot_plain.specs.Trees.{Ty, Abs}
+use Rattle.ot_logic.specs.Names.{Name}
+use Rattle.ot_logic.specs.Trees.{Ty, Abs}
 use Rattle.ot_nodes.specs.Items.{HasType, term_at}
 use Rattle.ot_nodes.specs.Table.{term_tree, HasTermParts}
 use Rattle.ot_nodes.specs.Typing.{binders_at, IsTyping}
@@ -10,7 +10,7 @@ use Rattle.ot_nodes.proofs.ItemLemmas.{type-stays, term-stays, still-term, still
 use Rattle.ot_nodes.proofs.TypingLemmas.{typing-grown, typings-grown, typings-insert}
 use Rattle.ot_nodes.proofs.TypingLemmas.{binders-stay, typing-cut, typing-number}
 use Rattle.ot_nodes.proofs.table.Nodes.+typing.Goals as goal
-use Rattle.ot_plain.proofs.Results.{on_ok}
+use Rattle.ot_logic.proofs.Results.{on_ok}
 
 pub typing_under-returns-in-Some-clause-ok : goal.typing_under-returns-in-Some-clause-ok
 typing_under-returns-in-Some-clause-ok t c =

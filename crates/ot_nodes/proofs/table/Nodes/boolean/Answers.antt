@@ -1,6 +1,6 @@
 use Rattle.std.proofs.Common.{Some, ap, ◌∙◌}
 use Rattle.std.proofs.lemmas.Result.{IfOk-weaker}
-use Rattle.ot_plain.specs.Trees.{TyOp, NoTys}
+use Rattle.ot_logic.specs.Trees.{TyOp, NoTys}
 use Rattle.ot_nodes.specs.Items.{TypeItem}
 use Rattle.ot_nodes.proofs.ShapeLemmas.{has-bool, name-bool}
 use Rattle.ot_nodes.proofs.table.Nodes.boolean.Goals as goal

@@ -7,7 +7,7 @@ use Rattle.ot_nodes.proofs.ItemLemmas.{has-type, still-name}
 use Rattle.ot_nodes.proofs.MapLemmas.{still-change, done-now}
 use Rattle.ot_nodes.proofs.ChangeLemmas.{closed-variable, other-variable, put-variable, free-variable, done-retyped}
 use Rattle.ot_nodes.proofs.table.Nodes.change_free.Goals as goal
-use Rattle.ot_plain.proofs.Results.{on_ok}
+use Rattle.ot_logic.proofs.Results.{on_ok}
 
 pub returns-then-eq-clause-ok : goal.returns-then-eq-clause-ok
 returns-then-eq-clause-ok c =

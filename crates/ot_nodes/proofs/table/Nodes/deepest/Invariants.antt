@@ -1,6 +1,6 @@
 use Rattle.std.proofs.Common.{◌≡◌, drop, max}
-use Rattle.ot_plain.specs.Hol.{depth_all}
-use Rattle.ot_plain.specs.Naming.{names}
+use Rattle.ot_logic.specs.Hol.{depth_all}
+use Rattle.ot_logic.specs.Naming.{names}
 use Rattle.ot_nodes.specs.Items.{types_at}
 use Rattle.ot_nodes.proofs.table.Nodes.deepest.Given as goal
 

@@ -1,6 +1,6 @@
 use Rattle.std.proofs.Common.{Some, ap, ◌∙◌}
 use Rattle.std.proofs.lemmas.Result.{IfOk-weaker}
-use Rattle.ot_plain.specs.Trees.{TyOp, MoreTys, NoTys}
+use Rattle.ot_logic.specs.Trees.{TyOp, MoreTys, NoTys}
 use Rattle.ot_nodes.specs.Items.{TypeItem, type_at}
 use Rattle.ot_nodes.proofs.ShapeLemmas.{has-arrow, name-arrow}
 use Rattle.ot_nodes.proofs.table.Nodes.fun.Goals as goal

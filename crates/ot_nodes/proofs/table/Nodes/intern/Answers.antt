@@ -1,8 +1,8 @@
 use Rattle.std.proofs.Common.{sym, subst}
-use Rattle.ot_plain.specs.Interned.{IsSound}
-use Rattle.ot_plain.specs.Table.{Extends}
-use Rattle.ot_plain.proofs.InternedLemmas.{found, pushed, Pushed}
-use Rattle.ot_plain.proofs.TableLemmas.{Extends-trans}
+use Rattle.ot_logic.specs.Interned.{IsSound}
+use Rattle.ot_logic.specs.Table.{Extends}
+use Rattle.ot_logic.proofs.InternedLemmas.{found, pushed, Pushed}
+use Rattle.ot_logic.proofs.TableLemmas.{Extends-trans}
 use Rattle.ot_nodes.specs.Items.{first_items}
 use Rattle.ot_nodes.specs.Below.{AreBelow}
 use Rattle.ot_nodes.specs.Table.{tree_of, Fits}

@@ -3,7 +3,7 @@ use Rattle.ot_nodes.specs.Changing.{type_map, AreInstances}
 use Rattle.ot_nodes.proofs.MapLemmas.{still-change}
 use Rattle.ot_nodes.proofs.ChangeLemmas.{done-retyped}
 use Rattle.ot_nodes.proofs.table.Nodes.retype.Goals as goal
-use Rattle.ot_plain.proofs.Results.{on_ok, on_ok-then}
+use Rattle.ot_logic.proofs.Results.{on_ok, on_ok-then}
 
 pub returns-in-Put-clause-done : goal.returns-in-Put-clause-done
 returns-in-Put-clause-done c =

@@ -1,7 +1,7 @@
 use Rattle.std.specs.List.{All}
 use Rattle.std.proofs.Common.{◌<◌, ap, sym, subst, ◌∙◌}
 use Rattle.std.proofs.lemmas.Result.{on_ok_weaker}
-use Rattle.ot_plain.specs.Trees.{TyOp}
+use Rattle.ot_logic.specs.Trees.{TyOp}
 use Rattle.ot_kernel.specs.State.{name_at, types_at}
 use Rattle.ot_pretty.proofs.Finding.{nothing-finds, operator-finds}
 use Rattle.ot_pretty.proofs.search.Search.look_at_type.Goals as goal

@@ -1,12 +1,12 @@
 use Rattle.std.proofs.Common.{◌∙◌, refl, arith, ap, sym, subst}
 use Rattle.ot_laws.proofs.Sets.{same_set-self}
-use Rattle.ot_plain.specs.Lists.{IsMember}
+use Rattle.ot_logic.specs.Lists.{IsMember}
 use Rattle.ot_type.proofs.SubtypeLemmas.{above, above-le, above-last}
 use Rattle.ot_term.proofs.Walking.{no_more}
 use Rattle.ot_pretty.specs.Found.{symbols_with}
 use Rattle.ot_pretty.proofs.Finding.{types-below, looked-type, no-terms, reached-same}
 use Rattle.ot_pretty.proofs.search.Search.look_at_types.Goals as goal
-use Rattle.ot_plain.proofs.Members.{IsMember-last}
+use Rattle.ot_logic.proofs.Members.{IsMember-last}
 
 pub loop-id-init : goal.loop-id-init
 loop-id-init c = (

@@ -7,7 +7,7 @@ use Rattle.ot_rules.specs.Statements.{terms_at, sequent_at, HasStatement}
 use Rattle.ot_rules.specs.Keeping.{ordered}
 use Rattle.ot_rules.proofs.KeptOnce.{kept-before, kept-there, kept-new}
 use Rattle.ot_rules.proofs.kept.Kept.keep.Goals as goal
-use Rattle.ot_plain.proofs.Results.{on_ok-then}
+use Rattle.ot_logic.proofs.Results.{on_ok-then}
 
 -- all of a list that has one more, or is as it was
 kept-all : {X E : Type 0} (P : X → Type 0) (r : Result (Unit {0}) E) (xs ys : List X) (x : X)

@@ -2,13 +2,13 @@ use Rattle.std.proofs.Common.{ℕ, List, subst, sym, ap, refl, ◌∙◌, ◌∷
 use Rattle.std.proofs.lemmas.List.{take_all}
 use Rattle.ot_nodes.specs.Items.{name_at, type_at, types_at}
 use Rattle.ot_nodes.specs.Table.{type_tree}
-use Rattle.ot_plain.specs.Trees.{TyOp}
+use Rattle.ot_logic.specs.Trees.{TyOp}
 use Rattle.ot_rules.specs.Parts.{marks_ty, marks_all, mark_at, Gathers}
 use Rattle.ot_rules.specs.declared.parts.Mark.TheVariants as mark
 use Rattle.ot_rules.proofs.Gathering.{gathers-nothing, gathers-on, gathers-known_type}
 use Rattle.ot_rules.proofs.Gathering.{gathers-type, gathers-next_type}
 use Rattle.ot_rules.proofs.parts.Parts.+types.Goals as goal
-use Rattle.ot_plain.proofs.Results.{on_ok-then}
+use Rattle.ot_logic.proofs.Results.{on_ok-then}
 
 pub add_type-returns-then-contains : goal.add_type-returns-then-contains
 add_type-returns-then-contains t c = gathers-known_type c.args.nodes.now c.args.self.now c.args.id c.contains.result

@@ -1,8 +1,8 @@
 use Rattle.std.proofs.Common.{◌≡◌, ◌+◌, ◌<◌, length, Some, Err, arith, ap, ◌∙◌}
-use Rattle.ot_plain.specs.Trees.{NAbs}
-use Rattle.ot_plain.specs.Hol.{named_depth, named_type}
-use Rattle.ot_plain.specs.Naming.{numbers}
-use Rattle.ot_plain.specs.Bounds.{names_in, names_in_terms}
+use Rattle.ot_logic.specs.Trees.{NAbs}
+use Rattle.ot_logic.specs.NamedTerms.{named_depth, named_type}
+use Rattle.ot_logic.specs.Naming.{numbers}
+use Rattle.ot_logic.specs.Bounds.{names_in, names_in_terms}
 use Rattle.ot_type.proofs.NamesIn.{bound_ty-type_at}
 use Rattle.ot_term.specs.TermTable.{term_at, variable_of}
 use Rattle.ot_term.proofs.Limit.{past-depth}
@@ -10,7 +10,7 @@ use Rattle.ot_term.proofs.Suiting.{suits-abstraction}
 use Rattle.ot_term.proofs.Growing.{Grows-trans, abstraction-Grows}
 use Rattle.ot_term.proofs.NamesIn.{bound_named-term_at}
 use Rattle.ot_term.proofs.table.Terms.abs.Goals as goal
-use Rattle.ot_plain.proofs.Results.{same_Err}
+use Rattle.ot_logic.proofs.Results.{same_Err}
 
 pub returns-then-inner-ge-DEPTH_LIMIT-clause-nesting : goal.returns-then-inner-ge-DEPTH_LIMIT-clause-nesting
 returns-then-inner-ge-DEPTH_LIMIT-clause-nesting c =

@@ -1,7 +1,7 @@
 use Rattle.std.proofs.Common.{Some, ap, sym, ◌∙◌}
 use Rattle.std.proofs.lemmas.Option.{slice_get_within, get_or_from_slice_get}
 use Rattle.std.proofs.lemmas.Result.{IfOk-weaker}
-use Rattle.ot_plain.specs.Trees.{TyVar, NAbs}
+use Rattle.ot_logic.specs.Trees.{TyVar, NAbs}
 use Rattle.ot_term.specs.TermTable.{term_at, variable_of}
 use Rattle.ot_term.proofs.Limit.{past-type}
 use Rattle.ot_term.proofs.NamesIn.{abs-typed}

@@ -2,7 +2,7 @@ use Rattle.std.specs.Result.{OnOk}
 use Rattle.std.proofs.Common.{◌≡◌, ◌<◌, ℕ, List, ap, subst}
 use Rattle.std.specs.List.{All}
 use Rattle.std.proofs.lemmas.Result.{on_ok_weaker}
-use Rattle.ot_plain.specs.Trees.{Ty}
+use Rattle.ot_logic.specs.Trees.{Ty}
 use Rattle.ot_type.specs.TypeTable.{type_at, ArgsBelow}
 use Rattle.ot_type.specs.Subtypes.{IsSubtype}
 use Rattle.ot_type.proofs.TypeTableLemmas.{node_op, node_var}

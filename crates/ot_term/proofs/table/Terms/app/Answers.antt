@@ -2,7 +2,7 @@ use Rattle.std.proofs.Common.{Err, ap}
 use Rattle.ot_type.specs.TypeTable.{type_at}
 use Rattle.ot_term.proofs.Refusals.{nesting_from}
 use Rattle.ot_term.proofs.table.Terms.app.Goals as goal
-use Rattle.ot_plain.proofs.Results.{same_Err}
+use Rattle.ot_logic.proofs.Results.{same_Err}
 
 pub returns-in_err-ty-clause-not_function : goal.returns-in_err-ty-clause-not_function
 returns-in_err-ty-clause-not_function c =

@@ -1,8 +1,9 @@
 use Rattle.std.proofs.Common.{◌≡◌, eqb-true, Some, ap, sym, subst}
 use Rattle.std.proofs.lemmas.Bool.{not-false}
-use Rattle.ot_plain.specs.Hol.{fun_ty, named_type}
-use Rattle.ot_plain.specs.Naming.{numbers}
-use Rattle.ot_plain.specs.Trees.{NApp}
+use Rattle.ot_logic.specs.Hol.{fun_ty}
+use Rattle.ot_logic.specs.NamedTerms.{named_type}
+use Rattle.ot_logic.specs.Naming.{numbers}
+use Rattle.ot_logic.specs.Trees.{NApp}
 use Rattle.ot_type.specs.TypeTable.{type_at}
 use Rattle.ot_term.specs.TermTable.{term_at}
 use Rattle.ot_term.proofs.Refusals.{application-typed}

@@ -1,8 +1,8 @@
 use Rattle.std.proofs.Common.{◌≡◌, ◌+◌, arith, ap}
-use Rattle.ot_plain.specs.Hol.{named_depth}
-use Rattle.ot_plain.specs.Naming.{numbers}
-use Rattle.ot_plain.specs.Trees.{NApp}
-use Rattle.ot_plain.specs.Bounds.{names_in}
+use Rattle.ot_logic.specs.NamedTerms.{named_depth}
+use Rattle.ot_logic.specs.Naming.{numbers}
+use Rattle.ot_logic.specs.Trees.{NApp}
+use Rattle.ot_logic.specs.Bounds.{names_in}
 use Rattle.ot_term.specs.TermTable.{term_at}
 use Rattle.ot_term.proofs.Limit.{past-depth}
 use Rattle.ot_term.proofs.Suiting.{suits-application}

@@ -1,5 +1,5 @@
 use Rattle.std.proofs.Common.{arith, ap, subst}
-use Rattle.ot_plain.specs.Bounds.{names_in}
+use Rattle.ot_logic.specs.Bounds.{names_in}
 use Rattle.ot_type.proofs.NamesIn.{bound_ty-type_at}
 use Rattle.ot_term.specs.TermTable.{IsTermTable}
 use Rattle.ot_term.proofs.Suiting.{suits-constant}

@@ -1,8 +1,8 @@
 use Rattle.std.specs.Result.{IfOk}
 use Rattle.std.proofs.Common.{◌≡◌, ℕ, slice_get, Some, Err, false, ap, subst, sym, ◌∙◌}
 use Rattle.std.proofs.lemmas.Option.{slice_get_within}
-use Rattle.ot_plain.specs.Trees.{Named, NConst, NApp}
-use Rattle.ot_plain.specs.Naming.{numbers}
+use Rattle.ot_logic.specs.Trees.{Named, NConst, NApp}
+use Rattle.ot_logic.specs.Naming.{numbers}
 use Rattle.ot_type.specs.declared.fault.TableFault.TheVariants.{Nesting}
 use Rattle.ot_type.specs.TypeTable.{type_at}
 use Rattle.ot_term.specs.TermTable.{term_at, is_within_limit}
@@ -11,7 +11,7 @@ use Rattle.ot_term.proofs.Limit.{past-function}
 use Rattle.ot_term.proofs.Equations.{left_tree, left_typed, equation_tree, equation_typed}
 use Rattle.ot_term.proofs.table.Terms.equation.Goals as goal
 use Rattle.ot_term.proofs.table.Terms.equation.Goals.{In_ok-left}
-use Rattle.ot_plain.proofs.Results.{same_Err}
+use Rattle.ot_logic.proofs.Results.{same_Err}
 
 pub apply-requires-clause-typed : goal.apply-requires-clause-typed
 apply-requires-clause-typed c = left_typed c.args.self.now c.equality.new.self c.equality.ensures.grown.grows

@@ -1,14 +1,14 @@
 use Rattle.std.proofs.Common.{◌≡◌, ℕ, List, rules, arith, sym, ap, subst}
-use Rattle.ot_plain.specs.Trees.{Ty, Tm}
+use Rattle.ot_logic.specs.Trees.{Ty, Tm}
 use Rattle.ot_term.specs.TermTable.{terms_of, IsTermSound}
 use Rattle.ot_term.specs.Classing.{IsFormBelow}
-use Rattle.ot_term.specs.declared.table.Beside.{Beside}
+use Rattle.ot_term.specs.declared.table.NodeInfo.{NodeInfo}
 use Rattle.ot_term.specs.declared.term.TermNode.{TermNode}
 use Rattle.ot_term.proofs.NamesIn.{names_in_terms-push}
 use Rattle.ot_term.proofs.TermTableLemmas.{sound-classes, classes_below, looked_up, put_in, number_new}
 use Rattle.ot_term.proofs.table.Terms.intern.Goals as goal
 
-sound_still : (tys : List (Ty ℕ)) (cs : List (Tm ℕ)) (es new : List (TermNode × Beside)) → es ≡ new
+sound_still : (tys : List (Ty ℕ)) (cs : List (Tm ℕ)) (es new : List (TermNode × NodeInfo)) → es ≡ new
     → IsTermSound tys cs es (terms_of tys es) → IsTermSound tys cs new (terms_of tys new)
 sound_still tys cs es new same = subst (λ es. IsTermSound tys cs es (terms_of tys es)) same
 

@@ -1,8 +1,8 @@
 use Rattle.std.specs.Prelude.{◌↔◌, IsTrue}
 use Rattle.std.proofs.Common.{◌≡◌, ℕ, List, ap, sym, subst, ◌∙◌}
-use Rattle.ot_plain.specs.Trees.{Ty}
-use Rattle.ot_plain.specs.Hol.{bool_ty}
-use Rattle.ot_plain.specs.Naming.{numbers}
+use Rattle.ot_logic.specs.Trees.{Ty}
+use Rattle.ot_logic.specs.Hol.{bool_ty}
+use Rattle.ot_logic.specs.Naming.{numbers}
 use Rattle.ot_type.specs.TypeTable.{type_at}
 use Rattle.ot_type.proofs.TypeTableLemmas.{node_op, node_var}
 use Rattle.ot_term.proofs.EqualityTests.{bool_op, not_so}

@@ -1,6 +1,7 @@
 use Rattle.std.proofs.Common.{◌<◌, Decides, length, sym, subst}
-use Rattle.ot_plain.specs.Hol.{IsClosed, nameless}
-use Rattle.ot_plain.specs.Naming.{numbers}
+use Rattle.ot_logic.specs.Hol.{IsClosed}
+use Rattle.ot_logic.specs.NamedTerms.{nameless}
+use Rattle.ot_logic.specs.Naming.{numbers}
 use Rattle.ot_term.specs.Term.{TermTable}
 use Rattle.ot_term.specs.TermTable.{term_at, terms_of, IsClassOf}
 use Rattle.ot_term.proofs.TermTableLemmas.{class_at-number, classes_within}

@@ -1,12 +1,12 @@
 use Rattle.std.proofs.Common.{◌++◌, ◌∷◌, [], arith, ap, subst, sym, length}
-use Rattle.ot_plain.specs.Lists.{IsMember}
+use Rattle.ot_logic.specs.Lists.{IsMember}
 use Rattle.ot_type.proofs.SubtypeLemmas.{above, above-le, above-last}
 use Rattle.ot_term.specs.TermTable.{term_at}
 use Rattle.ot_term.specs.Gather.{IsSubterm}
 use Rattle.ot_term.proofs.Walking.{IsSearch, search_step, search_end, all_below, no_more}
 use Rattle.ot_term.proofs.Gathering.{subterms_start, IsSubterm-trans}
 use Rattle.ot_term.proofs.table.Terms.subterms.Goals as goal
-use Rattle.ot_plain.proofs.Members.{IsMember-last}
+use Rattle.ot_logic.proofs.Members.{IsMember-last}
 
 pub loop-next-init : goal.loop-next-init
 loop-next-init c = rw (c.new-found.ensures.items, c.in_ok-insert.ensures.keys, c.new-pending.ensures.empty)

@@ -1,5 +1,5 @@
 use Rattle.std.proofs.Common.{◌<◌, ◌++◌, ◌∷◌, [], arith, ap, subst, sym, length}
-use Rattle.ot_plain.specs.Lists.{IsMember}
+use Rattle.ot_logic.specs.Lists.{IsMember}
 use Rattle.ot_type.specs.TypeTable.{type_at}
 use Rattle.ot_type.specs.Subtypes.{IsSubtype}
 use Rattle.ot_type.proofs.SubtypeLemmas.{above, above-le, above-last}
@@ -7,7 +7,7 @@ use Rattle.ot_term.specs.Walk.{IsInsideSome}
 use Rattle.ot_term.proofs.Walking.{IsSearch, search_step, search_end, all_below, no_more}
 use Rattle.ot_term.proofs.Gathering.{subtypes_start, inside_closed}
 use Rattle.ot_term.proofs.table.Terms.subtypes.Goals as goal
-use Rattle.ot_plain.proofs.Members.{IsMember-last, All-at_member}
+use Rattle.ot_logic.proofs.Members.{IsMember-last, All-at_member}
 
 pub loop-next-init : goal.loop-next-init
 loop-next-init c = rw c.new-found.ensures.items

@@ -1,10 +1,11 @@
 use Rattle.std.proofs.Common.{◌≡◌, [], ◌++◌, map, subst, sym, ◌∙◌}
 use Rattle.std.specs.List.{flat_map}
 use Rattle.std.proofs.lemmas.Result.{IfOk-weaker}
-use Rattle.ot_plain.specs.Hol.{symbols_tm, nameless}
-use Rattle.ot_plain.specs.Lists.{IsSameSet, AreDistinct}
-use Rattle.ot_plain.specs.Naming.{numbers}
-use Rattle.ot_plain.proofs.Members.{All-from_members}
+use Rattle.ot_logic.specs.Hol.{symbols_tm}
+use Rattle.ot_logic.specs.NamedTerms.{nameless}
+use Rattle.ot_logic.specs.Lists.{IsSameSet, AreDistinct}
+use Rattle.ot_logic.specs.Naming.{numbers}
+use Rattle.ot_logic.proofs.Members.{All-from_members}
 use Rattle.ot_type.specs.TypeTable.{type_at}
 use Rattle.ot_term.specs.TermTable.{term_at}
 use Rattle.ot_term.specs.Symbols.{symbol_of, constant_of, operator_of}

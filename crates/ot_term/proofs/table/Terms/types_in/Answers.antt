@@ -1,5 +1,5 @@
 use Rattle.std.proofs.lemmas.Result.{IfOk-weaker}
-use Rattle.ot_plain.proofs.Members.{All-from_members}
+use Rattle.ot_logic.proofs.Members.{All-from_members}
 use Rattle.ot_term.proofs.Gathering.{mentioned}
 use Rattle.ot_term.proofs.table.Terms.types_in.Goals as goal
 

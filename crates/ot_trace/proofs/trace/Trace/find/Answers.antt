@@ -1,6 +1,6 @@
 use Rattle.std.proofs.Common.{sym, subst, arith}
-use Rattle.ot_plain.specs.Interned.{IsSound}
-use Rattle.ot_plain.proofs.InternedLemmas.{found}
+use Rattle.ot_logic.specs.Interned.{IsSound}
+use Rattle.ot_logic.proofs.InternedLemmas.{found}
 use Rattle.ot_trace.specs.Trace.{origin_of, IsBelow, HasSymbols}
 use Rattle.ot_trace.proofs.TraceLemmas.{step_eq, laws}
 use Rattle.ot_trace.proofs.EnterLemmas.{not_entered}

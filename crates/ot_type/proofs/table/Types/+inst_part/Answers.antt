@@ -1,10 +1,10 @@
 use Rattle.std.proofs.Common.{◌<◌, ◌∙◌, Err, Some, ap, subst, sym, arith}
 use Rattle.std.specs.List.{All}
-use Rattle.ot_plain.specs.Hol.{depth_ty, depth_limit}
-use Rattle.ot_plain.specs.Naming.{numbers}
-use Rattle.ot_plain.proofs.Results.{same_Err}
-use Rattle.ot_plain.proofs.TableLemmas.{Extends-trans}
-use Rattle.ot_plain.proofs.Members.{All-at_member}
+use Rattle.ot_logic.specs.Hol.{depth_ty, depth_limit}
+use Rattle.ot_logic.specs.Naming.{numbers}
+use Rattle.ot_logic.proofs.Results.{same_Err}
+use Rattle.ot_logic.proofs.TableLemmas.{Extends-trans}
+use Rattle.ot_logic.proofs.Members.{All-at_member}
 use Rattle.ot_type.specs.Instance.{IsMemo}
 use Rattle.ot_type.specs.TypeTable.{images, ArgsBelow}
 use Rattle.ot_type.proofs.SubtypeLemmas.{above-le}

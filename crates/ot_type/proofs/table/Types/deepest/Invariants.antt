@@ -1,6 +1,6 @@
 use Rattle.std.proofs.Common.{◌≡◌, ◌≤◌, drop, max}
-use Rattle.ot_plain.specs.Hol.{depth_all, depth_limit}
-use Rattle.ot_plain.specs.Naming.{numbers}
+use Rattle.ot_logic.specs.Hol.{depth_all, depth_limit}
+use Rattle.ot_logic.specs.Naming.{numbers}
 use Rattle.ot_type.specs.TypeTable.{types_at}
 use Rattle.ot_type.proofs.table.Types.deepest.Given as goal
 

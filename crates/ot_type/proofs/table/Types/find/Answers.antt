@@ -1,6 +1,6 @@
 use Rattle.std.proofs.Common.{sym, subst}
-use Rattle.ot_plain.specs.Interned.{IsSound}
-use Rattle.ot_plain.proofs.InternedLemmas.{found}
+use Rattle.ot_logic.specs.Interned.{IsSound}
+use Rattle.ot_logic.proofs.InternedLemmas.{found}
 use Rattle.ot_type.specs.TypeTable.{tree_of, ArgsBelow, IsBeside}
 use Rattle.ot_type.proofs.TypeTableLemmas.{node_eq, laws}
 use Rattle.ot_type.proofs.table.Types.find.Goals as goal

@@ -1,5 +1,5 @@
 use Rattle.std.proofs.Common.{◌≤◌, arith, sym, subst}
-use Rattle.ot_plain.specs.Bounds.{bound_tys, names_in}
+use Rattle.ot_logic.specs.Bounds.{bound_tys, names_in}
 use Rattle.ot_type.specs.TypeTable.{types_at}
 use Rattle.ot_type.proofs.NamesIn.{bound_tys-types_at}
 use Rattle.ot_type.proofs.table.Types.op.Goals as goal

@@ -1,9 +1,9 @@
 use Rattle.std.proofs.Common.{arith, ap, subst, sym, ◌++◌, ◌∷◌, []}
-use Rattle.ot_plain.specs.Lists.{IsMember}
+use Rattle.ot_logic.specs.Lists.{IsMember}
 use Rattle.ot_type.specs.TypeTable.{type_at}
 use Rattle.ot_type.proofs.SubtypeLemmas.{IsSearch, search_start, search_step, all_below, above, above-le, above-last}
 use Rattle.ot_type.proofs.table.Types.subtypes.Goals as goal
-use Rattle.ot_plain.proofs.Members.{IsMember-last}
+use Rattle.ot_logic.proofs.Members.{IsMember-last}
 
 pub loop-next-init : goal.loop-next-init
 loop-next-init c = rw (c.new-found.ensures.items, c.in_ok-insert.ensures.keys, c.new-pending.ensures.empty)

@@ -1,7 +1,7 @@
 use Rattle.std.proofs.Common.{◌≡◌, refl, sym, ap, ◌∙◌, subst, take_all}
 use Rattle.std.proofs.lemmas.List.{append-nil}
-use Rattle.ot_plain.specs.Lists.{IsMember}
-use Rattle.ot_plain.specs.Table.{IsInjective}
+use Rattle.ot_logic.specs.Lists.{IsMember}
+use Rattle.ot_logic.specs.Table.{IsInjective}
 use Rattle.ot_type.proofs.SubtypeLemmas.{member_item}
 use Rattle.ot_type.proofs.TypeTableLemmas.{node_var, node_op}
 use Rattle.ot_type.proofs.VarLemmas.{names_of, names_more, names_same, names_distinct}

@@ -1,9 +1,9 @@
 use Rattle.std.proofs.Common.{sym, ◌∙◌}
 use Rattle.std.proofs.lemmas.Result.{IfOk-weaker}
-use Rattle.ot_plain.specs.Naming.{names}
-use Rattle.ot_plain.specs.Trees.{Free, Con, App, Abs}
-use Rattle.ot_plain.specs.Hol.{close}
-use Rattle.ot_plain.specs.declared.command.Cmd.TheVariants as words
+use Rattle.ot_logic.specs.Naming.{names}
+use Rattle.ot_logic.specs.Trees.{Free, Con, App, Abs}
+use Rattle.ot_logic.specs.Hol.{close}
+use Rattle.ot_logic.specs.declared.command.Cmd.TheVariants as words
 use Rattle.ot_nodes.specs.Items.{name_at, type_at, term_at}
 use Rattle.ot_nodes.specs.Changing.{variable_at}
 use Rattle.ot_nodes.proofs.ItemLemmas.{still-name, still-term}

@@ -1,5 +1,5 @@
 use Rattle.std.proofs.Common.{◌+◌, ◌*◌, take}
-use Rattle.ot_plain.specs.Table.{Extends}
+use Rattle.ot_logic.specs.Table.{Extends}
 use Rattle.ot_values.specs.Steps.{IsTypeOf}
 use Rattle.ot_values.specs.Known.{AreKnown}
 use Rattle.ot_values.proofs.Listing.{AreEach}

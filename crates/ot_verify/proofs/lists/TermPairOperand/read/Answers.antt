@@ -1,6 +1,6 @@
 use Rattle.std.specs.Prelude.{Ok, Err, slice_get}
 use Rattle.std.proofs.Common.{◌∙◌, ℕ, ap, subst}
-use Rattle.ot_plain.specs.Names.{Name}
+use Rattle.ot_logic.specs.Names.{Name}
 use Rattle.ot_records.specs.State.{LogState}
 use Rattle.ot_records.specs.Records.{AskTerm, ask_variable}
 use Rattle.ot_verify.specs.Asking.{AnsweredFrom, IsAt}

@@ -1,6 +1,6 @@
 use Rattle.std.specs.List.{All, list_all}
 use Rattle.std.proofs.Common.{◌∙◌, [], ◌∷◌, ◌++◌, map, sym, ap, subst}
-use Rattle.ot_plain.specs.Naming.{names}
+use Rattle.ot_logic.specs.Naming.{names}
 use Rattle.ot_records.specs.Steps.{is_sequent_within}
 use Rattle.ot_rules.specs.Accepting.{accepted_at}
 use Rattle.ot_rules.specs.Limits.{AreWellTyped}

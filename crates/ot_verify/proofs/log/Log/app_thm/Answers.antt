@@ -1,4 +1,4 @@
-use Rattle.ot_plain.specs.Naming.{names}
+use Rattle.ot_logic.specs.Naming.{names}
 use Rattle.ot_laws.proofs.Tests.{tells_names}
 use Rattle.ot_records.specs.Steps.{app_thm_step}
 use Rattle.ot_records.proofs.StepSound.{app_thm-sound}

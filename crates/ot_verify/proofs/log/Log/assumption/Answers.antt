@@ -1,7 +1,7 @@
 use Rattle.std.specs.Prelude.{Err}
 use Rattle.std.specs.List.{All}
 use Rattle.std.proofs.Common.{◌∙◌, ℕ, List, sym, ap, subst}
-use Rattle.ot_plain.specs.Naming.{names}
+use Rattle.ot_logic.specs.Naming.{names}
 use Rattle.ot_records.specs.State.{makes_assumption}
 use Rattle.ot_records.specs.Steps.{assumption_step}
 use Rattle.ot_nodes.specs.Items.{HasTerm}

@@ -1,4 +1,4 @@
-use Rattle.ot_plain.specs.Trees.{Bound}
+use Rattle.ot_logic.specs.Trees.{Bound}
 use Rattle.ot_nodes.proofs.ItemLemmas.{has-term, term-is}
 use Rattle.ot_verify.proofs.Logging.{held_of, log-kept, state-then, made-term}
 use Rattle.ot_nodes.specs.Items.{term_at}

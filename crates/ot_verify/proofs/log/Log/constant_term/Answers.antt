@@ -1,6 +1,6 @@
 use Rattle.std.proofs.Common.{◌∙◌}
 use Rattle.std.proofs.Common.{true≢false, sym}
-use Rattle.ot_plain.specs.Trees.{Con}
+use Rattle.ot_logic.specs.Trees.{Con}
 use Rattle.ot_nodes.proofs.ItemLemmas.{has-name, name-is, has-term, term-is}
 use Rattle.ot_verify.proofs.Logging.{at-same, held_of, log-kept, state-then, named-here}
 use Rattle.ot_verify.proofs.Logging.{type-here, typed-here, no-type, made-term}

@@ -1,5 +1,5 @@
 use Rattle.std.proofs.Common.{◌∙◌, true≢false, sym, subst}
-use Rattle.ot_plain.specs.Naming.{names}
+use Rattle.ot_logic.specs.Naming.{names}
 use Rattle.ot_laws.proofs.Tests.{tells_names}
 use Rattle.ot_records.specs.State.{makes_definition}
 use Rattle.ot_records.specs.Steps.{constant_step}

@@ -1,6 +1,6 @@
 use Rattle.std.specs.Prelude.{Err}
 use Rattle.std.proofs.Common.{◌∙◌, ℕ, List, sym, ap, subst}
-use Rattle.ot_plain.specs.Naming.{names}
+use Rattle.ot_logic.specs.Naming.{names}
 use Rattle.ot_laws.specs.Theorem.{IsTheorem}
 use Rattle.ot_laws.proofs.Tests.{tells_names}
 use Rattle.ot_records.specs.State.{makes_definition}
@@ -9,7 +9,7 @@ use Rattle.ot_records.proofs.DefinitionSound.{constants-acceptable}
 use Rattle.ot_nodes.specs.declared.node.VariableNode.{VariableNode}
 use Rattle.ot_rules.specs.Limits.{AreWellTyped}
 use Rattle.ot_rules.specs.Statements.{sequent_at}
-use Rattle.ot_plain.specs.Trees.{ListDef}
+use Rattle.ot_logic.specs.Trees.{ListDef}
 use Rattle.ot_rules.specs.Definitions.{definition_at, pairs_at, HasPairs, Defines}
 use Rattle.ot_rules.specs.declared.definition.Definition as code
 use Rattle.ot_rules.specs.declared.definition.Definition.TheVariants as kind

@@ -1,6 +1,6 @@
 use Rattle.std.proofs.Common.{sym, subst}
-use Rattle.ot_plain.specs.Naming.{names}
-use Rattle.ot_plain.proofs.TableLemmas.{Extends-refl}
+use Rattle.ot_logic.specs.Naming.{names}
+use Rattle.ot_logic.proofs.TableLemmas.{Extends-refl}
 use Rattle.ot_laws.proofs.Tests.{tells_names}
 use Rattle.ot_records.specs.Steps.{eq_mp_step}
 use Rattle.ot_records.proofs.StepSound.{eq_mp-sound}

@@ -1,6 +1,6 @@
 use Rattle.std.proofs.Common.{◌∙◌, ap, subst}
 use Rattle.std.proofs.Common.{ℕ, List, sym}
-use Rattle.ot_plain.specs.Trees.{Free}
+use Rattle.ot_logic.specs.Trees.{Free}
 use Rattle.ot_nodes.proofs.ItemLemmas.{has-term, term-is}
 use Rattle.ot_verify.specs.Finding.{IsFoundVariable}
 use Rattle.ot_verify.proofs.Found.{variable-found, variable-there, variable-held}

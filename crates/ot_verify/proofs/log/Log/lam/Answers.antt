@@ -1,5 +1,5 @@
 use Rattle.std.proofs.Common.{◌∙◌}
-use Rattle.ot_plain.specs.Trees.{Abs}
+use Rattle.ot_logic.specs.Trees.{Abs}
 use Rattle.ot_nodes.proofs.ItemLemmas.{has-term, term-is}
 use Rattle.ot_verify.proofs.Logging.{at-same, held_of, log-kept, state-then, type-here, typed-here}
 use Rattle.ot_verify.proofs.Logging.{no-type, term-here, held-here, no-term, made-term}

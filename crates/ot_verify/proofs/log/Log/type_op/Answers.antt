@@ -1,9 +1,9 @@
 use Rattle.std.proofs.Common.{◌∙◌, ap, subst}
-use Rattle.ot_plain.specs.Naming.{names}
+use Rattle.ot_logic.specs.Naming.{names}
 use Rattle.std.specs.List.{All}
 use Rattle.std.proofs.Common.{ℕ, List}
 use Rattle.std.proofs.Common.{true≢false, sym}
-use Rattle.ot_plain.specs.Trees.{TyOp}
+use Rattle.ot_logic.specs.Trees.{TyOp}
 use Rattle.std.proofs.Common.{Err}
 use Rattle.ot_records.specs.Records.{arguments}
 use Rattle.ot_records.specs.State.{makes_type}

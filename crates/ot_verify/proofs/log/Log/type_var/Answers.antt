@@ -1,6 +1,6 @@
 use Rattle.std.proofs.Common.{◌∙◌, ap}
 use Rattle.std.proofs.Common.{true≢false, sym}
-use Rattle.ot_plain.specs.Trees.{TyVar}
+use Rattle.ot_logic.specs.Trees.{TyVar}
 use Rattle.ot_nodes.proofs.ItemLemmas.{has-name, name-is, has-type, type-is}
 use Rattle.ot_verify.proofs.Logging.{held_of, log-kept, state-then, named-here, made-type}
 use Rattle.ot_nodes.specs.Items.{type_at}

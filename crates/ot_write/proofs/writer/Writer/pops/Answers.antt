@@ -1,5 +1,5 @@
 use Rattle.std.proofs.Common.{◌≡◌, ◌-◌, ap, refl, arith}
-use Rattle.ot_plain.specs.declared.command.Cmd.TheVariants as words
+use Rattle.ot_logic.specs.declared.command.Cmd.TheVariants as words
 use Rattle.ot_written.specs.Written as w
 use Rattle.ot_write.specs.Emitting.{keep, used, same}
 use Rattle.ot_write.proofs.Moving.{leads-step, leads-end, shows-put, pops-next}

@@ -1,5 +1,5 @@
 use Rattle.std.proofs.Common.{refl}
-use Rattle.ot_plain.specs.declared.command.Cmd.TheVariants as words
+use Rattle.ot_logic.specs.declared.command.Cmd.TheVariants as words
 use Rattle.ot_written.specs.Written as w
 use Rattle.ot_write.specs.Emitting.{given}
 use Rattle.ot_write.proofs.Moving.{put-behind}

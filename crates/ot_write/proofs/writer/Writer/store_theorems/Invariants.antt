@@ -1,5 +1,5 @@
 use Rattle.std.proofs.Common.{List}
-use Rattle.ot_plain.specs.Names.{Name}
+use Rattle.ot_logic.specs.Names.{Name}
 use Rattle.ot_written.specs.Written as w
 use Rattle.ot_trace.specs.Trace.{origin_at}
 use Rattle.ot_write.specs.Emitting.{IsReady, given, keep, used, same}
