@@ -1,6 +1,5 @@
 //! The check of a constant.
-ghost use Rattle.std.specs.Prelude.{◌≡◌, ◌<◌, length};
-ghost use Rattle.ot_term.specs.declared.term.SymbolKind.TheVariants.{Con};
+ghost use Rattle.std.specs.Prelude.{◌<◌, length};
 ghost use Rattle.ot_logic.specs.Naming.{numbers};
 ghost use Rattle.ot_laws.specs.Conditions.{checked_const};
 ghost use Rattle.ot_define.specs.Answers.{Checks, tm_at};
@@ -8,8 +7,9 @@ ghost use Rattle.ot_define.specs.Answers.{Checks, tm_at};
 use crate::fault::DefineFault;
 use crate::premise::{check_closed_but, check_type_vars};
 use crate::signature::Signature;
+use crate::symbols::constant_symbol;
 use ot_logic::NameId;
-use ot_term::{Symbol, SymbolKind, TermId, Terms};
+use ot_term::{TermId, Terms};
 use std::alloc::Global;
 
 impl Signature {
@@ -31,15 +31,5 @@ impl Signature {
         self.check_symbols(alloc, terms, &[], t, &[symbol])?;
         check_closed_but(alloc, terms, &[], t)?;
         check_type_vars(alloc, terms, t)
-    }
-}
-
-/// The symbol of a constant.
-pub(crate) fn constant_symbol(name: NameId) -> Symbol
-    ensures { result ≡ record { kind = Con; name = name } }
-{
-    Symbol {
-        kind: SymbolKind::Con,
-        name,
     }
 }

@@ -7,7 +7,9 @@ mod lists;
 mod premise;
 mod sets;
 mod signature;
+mod symbols;
 mod types;
 
 pub use fault::DefineFault;
 pub use signature::Signature;
+pub use symbols::{constant_symbol, constant_symbols, type_symbols};

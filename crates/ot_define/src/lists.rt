@@ -8,18 +8,17 @@ ghost use Rattle.ot_logic.specs.Hol.{as_equation, same_tm, same_var, symbols_of}
 ghost use Rattle.ot_logic.specs.Naming.{numbers};
 ghost use Rattle.ot_logic.specs.Answers.{unless};
 ghost use Rattle.ot_term.specs.TermTable.{variable_of};
-ghost use Rattle.ot_term.specs.declared.term.SymbolKind.TheVariants.{Con};
 ghost use Rattle.ot_laws.specs.Conditions.{are_distinct, checked_list, checked_symbols, given, given_by};
 ghost use Rattle.ot_laws.specs.Conditions.{is_closed, is_closed_but, keeps_type_vars, only, terms_given};
 ghost use Rattle.ot_define.specs.Answers.{Checks, checked_given, tm_at, sequent_at, listed};
 
-use crate::constants::constant_symbol;
 use crate::fault::DefineFault;
 use crate::premise::{check_closed_but, check_type_vars, pass_if};
 use crate::sets::are_distinct;
 use crate::signature::Signature;
+use crate::symbols::constant_symbols;
 use ot_logic::{Memory, NameId};
-use ot_term::{Symbol, TermId, TermNode, Terms, VarKey};
+use ot_term::{TermId, TermNode, Terms, VarKey};
 use std::alloc::Global;
 
 impl Signature {
@@ -127,18 +126,6 @@ fn are_pairs(
     let vars_differ = are_distinct(alloc, vars)?;
     let as_many = hyps.len() == vars.len();
     Ok(names_differ & vars_differ & as_many)
-}
-
-/// The symbols of constants.
-fn constant_symbols(alloc: Global, names: &[NameId]) -> Result<Vec<Symbol>, Memory>
-    ensures { IfOk result (λ symbols. symbols.items ≡ map (λ n. record { kind = Con; name = n }) names.now) }
-{
-    Ok(
-        names
-            .iter()
-            .map(|name| constant_symbol(*name))
-            .collect(alloc)?,
-    )
 }
 
 /// The terms of the variables, in their order, where the hypotheses give each exactly one.

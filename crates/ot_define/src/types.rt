@@ -3,20 +3,19 @@ ghost use Rattle.std.specs.Prelude.{◌≡◌, ◌<◌, ◌&&◌, map, length, I
 ghost use Rattle.std.specs.List.{All};
 ghost use Rattle.std.specs.Option.{option_map};
 ghost use Rattle.ot_logic.specs.Faults.{BadTypeVars};
-ghost use Rattle.ot_term.specs.declared.term.SymbolKind.TheVariants.{TyOp};
 ghost use Rattle.ot_logic.specs.Hol.{vars_tm};
 ghost use Rattle.ot_logic.specs.Naming.{numbers};
 ghost use Rattle.ot_logic.specs.Answers.{unless};
 ghost use Rattle.ot_laws.specs.Conditions.{are_distinct, are_names_of, checked_type, function_of};
 ghost use Rattle.ot_define.specs.Answers.{Checks, tm_at, sequent_at};
 
-use crate::constants::constant_symbol;
 use crate::fault::DefineFault;
 use crate::premise::{check_closed_but, pass_if};
 use crate::sets::{are_among, are_distinct};
 use crate::signature::Signature;
+use crate::symbols::type_symbols;
 use ot_logic::NameId;
-use ot_term::{Symbol, SymbolKind, TermId, TermNode, Terms};
+use ot_term::{TermId, TermNode, Terms};
 use std::alloc::Global;
 
 impl Signature {
@@ -46,11 +45,7 @@ impl Signature {
             return Err(DefineFault::NotApplication);
         };
         check_listed(alloc, terms, vars, p)?;
-        let symbols = [
-            operator_symbol(name),
-            constant_symbol(abs),
-            constant_symbol(rep),
-        ];
+        let symbols = type_symbols(name, abs, rep);
         self.check_symbols(alloc, terms, hyps, concl, &symbols)?;
         check_closed_but(alloc, terms, &[], p)
     }
@@ -79,14 +74,4 @@ fn check_listed(alloc: Global, terms: &Terms, vars: &[NameId], t: TermId) -> Res
     let distinct = are_distinct(alloc, vars)?;
     let listed = are_among(alloc, occurring.as_slice(), vars)?;
     pass_if(distinct & listed, DefineFault::BadTypeVars)
-}
-
-/// The symbol of a type operator.
-fn operator_symbol(name: NameId) -> Symbol
-    ensures { result ≡ record { kind = TyOp; name = name } }
-{
-    Symbol {
-        kind: SymbolKind::TyOp,
-        name,
-    }
 }

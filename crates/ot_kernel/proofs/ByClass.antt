@@ -31,7 +31,7 @@ first_last true false x = refl
 first_last false true x = refl
 first_last false false x = refl
 
--- the class of a term comes to the classes: what a set answers after it was put in
+-- the class of a term is added to the classes: what a set answers after it was put in
 pub adds-class : (m : TermTable) → IsTermTable m → (t d : ℕ) (old new : List ℕ) → slice_get m.classes t ≡ Some d
     → ((c : ℕ) → list_any (nat_eq c) new ≡ cond (nat_eq d c) true (list_any (nat_eq c) old)) → AddsClass m t old new
 adds-class m table t d old new at more i c p =
@@ -53,10 +53,6 @@ module _ (m : TermTable) where
       → (list_any (nat_eq c) ks || is_in numbers (tm_at m.terms i) (tms_at m.terms (drop k is)))
       ≡ is_in numbers (tm_at m.terms i) (tms_at m.terms is)
 
-  pub before-first : (is ks : List ℕ) → ks ≡ [] → AreClassesBefore is 0 ks
-  before-first is ks none i c p =
-      ap (λ l. list_any (nat_eq c) l || is_in numbers (tm_at m.terms i) (tms_at m.terms is)) none
-
   pub before-next : (is : List ℕ) (k t : ℕ) (old new : List ℕ) → k < length is → t ≡ get_or is k t
       → AddsClass m t old new → AreClassesBefore is k old → AreClassesBefore is (k + 1) new
   before-next is k t old new h e adds before i c p =
@@ -75,19 +71,13 @@ module _ (m : TermTable) where
       ∙ ap (λ l. list_any (nat_eq c) ks || is_in numbers (tm_at m.terms i) (tms_at m.terms l)) (sym (drop_all k is h))
       ∙ before i c p
 
-  -- from the last of the terms on
-  pub classes-none : (is : List ℕ) (k : ℕ) (ks : List ℕ) → length is ≤ k → ks ≡ []
-      → AreClassesOf m (tms_at m.terms (drop k is)) ks
-  classes-none is k ks h none i c p = ap (list_any (nat_eq c)) none
-      ∙ ap (λ l. is_in numbers (tm_at m.terms i) (tms_at m.terms l)) (sym (drop_all k is h))
-
   -- the terms behind the place before j are those from j on
   pub behind : (is : List ℕ) (j : ℕ) → 0 < j → take (length is - (j - 1 + 1)) (drop (j - 1 + 1) is) ≡ drop j is
   behind is j h =
       let here : j - 1 + 1 ≡ j = omega arith in
       take_rest is (j - 1 + 1) ∙ ap (λ n. drop n is) here
 
-  -- the term before j comes to those from j on
+  -- the term before j is added to those from j on
   pub classes-back : (is : List ℕ) (j t : ℕ) → 0 < j → j ≤ length is → t ≡ get_or is (j - 1) t
       → tm_at m.terms t ∷ tms_at m.terms (drop j is) ≡ tms_at m.terms (drop (j - 1) is)
   classes-back is j t h k e =

@@ -10,8 +10,6 @@ use Rattle.ot_logic.specs.Naming.{numbers}
 use Rattle.ot_logic.specs.Rules.{app_rule, abs_rule}
 use Rattle.ot_laws.proofs.Tests.{tells_numbers}
 use Rattle.ot_laws.proofs.Typing.{type-nameless}
-use Rattle.ot_type.specs.declared.fault.TableFault.{TableFault}
-use Rattle.ot_type.specs.declared.fault.TableFault.TheVariants as of_types
 use Rattle.ot_term.specs.declared.term.TermFault.{TermFault}
 use Rattle.ot_term.specs.declared.term.TermFault.TheVariants as of_terms
 use Rattle.ot_term.specs.Term.{TermTable}
@@ -19,10 +17,10 @@ use Rattle.ot_term.specs.TermTable.{term_at, is_within_limit, IsTermTable}
 use Rattle.ot_term.specs.Equality.{named_equation}
 use Rattle.ot_kernel.specs.declared.fault.RuleFault.TheVariants as rules
 use Rattle.ot_kernel.specs.Answers.{RefusesRule}
-use Rattle.ot_kernel.specs.Refusals.{of_table, of_term}
+use Rattle.ot_kernel.specs.Refusals.{of_term}
 use Rattle.ot_kernel.specs.Equating.{limited, equation_rule, Makes}
 use Rattle.ot_kernel.proofs.TermRules.{app-made, app-not_function, app-argument_type}
-use Rattle.ot_kernel.proofs.TermRules.{app-nesting, abs-made, abs-nesting}
+use Rattle.ot_kernel.proofs.TermRules.{app-nesting, abs-made}
 use Rattle.ot_kernel.proofs.EquationRules.{refuses_rule, memory_refuses, equation_rule-at}
 
 -- the term of a new number
@@ -106,10 +104,3 @@ makes_abstraction u v b id table made =
       abs-made numbers tells_numbers v b (table.limit id (NAbs v b) made)
           ∙ ap (λ z. Ok (nameless numbers z)) (sym is),
     )
-
-pub abstraction_refused : (v : Variable ℕ) (b : Named ℕ) (e : TableFault)
-    → (e ≡ of_types.Nesting → is_within_limit (NAbs v b) ≡ false)
-    → RefusesRule (of_table e) (abs_rule numbers v (nameless numbers b))
-abstraction_refused v b of_types.Nesting nesting =
-    refuses_rule rules.Nesting Nesting _ (λ _. refl) (abs-nesting numbers tells_numbers v b (nesting refl))
-abstraction_refused v b of_types.Memory nesting = memory_refuses _

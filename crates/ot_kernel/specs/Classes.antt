@@ -12,7 +12,7 @@ abbrev pub AreClassesOf : TermTable → List (Tm ℕ) → List ℕ → Type 0
 AreClassesOf m us ks = (i c : ℕ) → slice_get m.classes i ≡ Some c
     → list_any (nat_eq c) ks ≡ is_in numbers (tm_at m.terms i) us
 
--- the class of the term t comes to the classes
+-- the class of the term t is added to the classes
 abbrev pub AddsClass : TermTable → ℕ → List ℕ → List ℕ → Type 0
 AddsClass m t old new = (i c : ℕ) → slice_get m.classes i ≡ Some c
     → list_any (nat_eq c) new ≡ (same_tm numbers (tm_at m.terms t) (tm_at m.terms i) || list_any (nat_eq c) old)

@@ -6,7 +6,6 @@ ghost use Rattle.ot_logic.specs.Trees.{ConDef, ListDef};
 ghost use Rattle.ot_logic.specs.Hol.{symbols_of, symbols_all, theorems, IsNext};
 ghost use Rattle.ot_logic.specs.Naming.{names as name_alphabet, numbers};
 ghost use Rattle.ot_logic.specs.Renamed.{map_symbol};
-ghost use Rattle.ot_term.specs.declared.term.SymbolKind.TheVariants.{Con};
 ghost use Rattle.ot_laws.specs.Conditions.{checked_const, checked_list};
 ghost use Rattle.ot_kernel.specs.State.{name_at, variable_at, term_at, terms_at, theorem_at, Keeps};
 ghost use Rattle.ot_kernel.specs.Definitions.{number_of};
@@ -23,9 +22,9 @@ use crate::definition::Definition;
 use crate::fault::RuleFault;
 use crate::kernel::Kernel;
 use crate::theorem::{Theorem, ThmId};
-use ot_define::Signature;
+use ot_define::{Signature, constant_symbol, constant_symbols};
 use ot_logic::{Memory, NameId};
-use ot_term::{Symbol, SymbolKind, TermId, Terms, VarKey};
+use ot_term::{Symbol, TermId, Terms, VarKey};
 use std::alloc::Global;
 
 impl Kernel {
@@ -260,28 +259,6 @@ fn symbols_of(alloc: Global, terms: &Terms, ids: &[TermId]) -> Result<Vec<Symbol
         symbols.extend_from_slice(more.as_slice())?;
     }
     Ok(symbols)
-}
-
-/// The symbols of constants.
-fn constant_symbols(alloc: Global, names: &[NameId]) -> Result<Vec<Symbol>, Memory>
-    ensures { IfOk result (λ v. v.items ≡ map (λ n. record { kind = Con; name = n }) names.now) }
-{
-    Ok(
-        names
-            .iter()
-            .map(|name| constant_symbol(*name))
-            .collect(alloc)?,
-    )
-}
-
-/// The symbol of a constant.
-pub(crate) fn constant_symbol(name: NameId) -> Symbol
-    ensures { result ≡ record { kind = Con; name = name } }
-{
-    Symbol {
-        kind: SymbolKind::Con,
-        name,
-    }
 }
 
 /// Adds theorems to a list, and symbols to a signature. After running out of memory both are as before.

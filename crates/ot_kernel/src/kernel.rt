@@ -92,6 +92,7 @@ impl Kernel {
     pub fn sound(&self)
         ensures { IsSoundState self.now }
     {
+        // What holds of each kernel.
         let _terms = &self.terms;
     }
 

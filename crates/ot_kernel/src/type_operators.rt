@@ -6,7 +6,6 @@ ghost use Rattle.ot_logic.specs.Hol.{theorems, theorems_at, IsNext};
 ghost use Rattle.ot_logic.specs.Naming.{names as name_alphabet, numbers};
 ghost use Rattle.ot_laws.specs.Theorem.{IsTheorem};
 ghost use Rattle.ot_term.specs.TermTable.{IsGrownTo};
-ghost use Rattle.ot_term.specs.declared.term.SymbolKind.TheVariants.{TyOp};
 ghost use Rattle.ot_laws.specs.Conditions.{checked_type};
 ghost use Rattle.ot_kernel.specs.State.{name_at, theorem_at, Keeps};
 ghost use Rattle.ot_kernel.specs.Spelled.{sequent_of, IsInside};
@@ -18,12 +17,12 @@ ghost use Rattle.ot_kernel.specs.Answers.{RefusesBy, IsSymbolIn, DefinesType};
 
 use crate::defining::type_theorems;
 use crate::definition::Definition;
-use crate::definitions::constant_symbol;
 use crate::fault::RuleFault;
 use crate::kernel::Kernel;
 use crate::theorem::{Theorem, ThmId};
+use ot_define::type_symbols;
 use ot_logic::{Memory, NameId};
-use ot_term::{Symbol, SymbolKind, TermId, TermNode, Terms};
+use ot_term::{TermId, TermNode, Terms};
 use ot_type::TypeId;
 use std::alloc::Global;
 
@@ -154,11 +153,7 @@ impl Kernel {
         };
         let mut theorems = listed(self.alloc, (first, second))?;
         theorems.append(&mut further)?;
-        let defined = [
-            operator_symbol(name),
-            constant_symbol(abs),
-            constant_symbol(rep),
-        ];
+        let defined = type_symbols(name, abs, rep);
         self.accept(theorems, definition, &defined, used.as_slice())?;
         Ok((abs_th, rep_th))
     }
@@ -204,15 +199,5 @@ pub(crate) fn parts(terms: &Terms, premise: TermId) -> (TermId, TypeId)
     match *terms.node(premise) {
         TermNode::App(p, t) => (p, terms.type_of(t)),
         _ => unreachable!(),
-    }
-}
-
-/// The symbol of a type operator.
-fn operator_symbol(name: NameId) -> Symbol
-    ensures { result ≡ record { kind = TyOp; name = name } }
-{
-    Symbol {
-        kind: SymbolKind::TyOp,
-        name,
     }
 }

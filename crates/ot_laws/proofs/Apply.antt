@@ -1,11 +1,11 @@
 -- Substitution on named terms: one binder, and the whole walk.
 use Rattle.std.specs.Prelude.{◌≢◌}
-use Rattle.std.proofs.Common.{◌≡◌, [], ◌∷◌, refl, sym, ap, subst, ◌∙◌, inl, inr, ◌⊎◌}
+use Rattle.std.proofs.Common.{◌≡◌, [], ◌∷◌, refl, sym, ap, ◌∙◌, inl, inr, ◌⊎◌}
 use Rattle.ot_logic.specs.Trees.{Alphabet, Ty, Variable, Tm, Free, Named, NVar, NConst, NApp, NAbs}
 use Rattle.ot_logic.specs.Lists.{IsMember}
 use Rattle.ot_logic.specs.Hol.{TypeMap, type_at, inst, inst_by, close_at, bind}
 use Rattle.ot_logic.specs.Hol.{TermMap, term_at, inst_var, subst_tm, IsFree}
-use Rattle.ot_logic.specs.NamedTerms.{nameless, IsFreeIn, Renaming, image, IsApart}
+use Rattle.ot_logic.specs.NamedTerms.{nameless, IsFreeIn, Renaming, image}
 use Rattle.ot_laws.specs.Walk.{NamedMap, nameless_map, named_at, named_image, BinderRule, apply_by, Picks}
 use Rattle.ot_laws.proofs.Tests.{Tells, var_cases, same_var-no}
 use Rattle.ot_laws.proofs.Terms.{with, bind-close_at, bind-agree}
@@ -71,18 +71,6 @@ module _ {N : Type 0} (alphabet : Alphabet N) (tells : Tells alphabet) where
       | inr e ↦ inr (rw q.0 e)
     ]
   ]
-
-  pub abs-no_clash : (s : TypeMap alphabet) (m : TermMap alphabet) (v : Variable N) (b c : Named N)
-      → IsApart alphabet s m v b → nameless alphabet c ≡ subst_tm alphabet s m (nameless alphabet b)
-      → nameless alphabet (NAbs (inst_var alphabet s v) c) ≡ subst_tm alphabet s m (nameless alphabet (NAbs v b))
-  abs-no_clash s m v b c h e = abs-kept [] s m v b c (term_at-kept m (inst_var alphabet s v) h.not_put) away e
-    where
-      away : (x : Variable N) → IsFreeIn alphabet x b → x ≢ v
-          → ¬ (IsFree alphabet (inst_var alphabet s v) (term_at alphabet m (inst_var alphabet s x)))
-      away x i n f = elim (term_at-cases m (inst_var alphabet s x)) [
-        | inl (p, j, d) ↦ h.not_in p j (subst (λ t. IsFree alphabet (inst_var alphabet s v) t) d f)
-        | inr d ↦ let k : inst_var alphabet s x ≡ inst_var alphabet s v = rw d at f in n (h.alone x i k)
-      ]
 
   named_at-nameless : (m : NamedMap alphabet) (v : Variable N) → nameless alphabet (named_at alphabet m v)
       ≡ term_at alphabet (nameless_map alphabet m) v

@@ -1,9 +1,8 @@
 -- Hypotheses as sets: the tests decide, and no list comes out with a repetition that had none.
-use Rattle.std.specs.Prelude.{◌≢◌, ◌↔◌, ◌||◌, ◌&&◌}
+use Rattle.std.specs.Prelude.{◌≢◌, ◌↔◌, ◌&&◌}
 use Rattle.std.specs.Bool.{Decides}
-use Rattle.std.proofs.Common.{◌≡◌, true, false, Bool, cond, List, [], ◌∷◌}
-use Rattle.std.proofs.Common.{◌++◌, refl, sym, ap, ◌∙◌, subst, inl, inr, ◌⊎◌}
-use Rattle.std.proofs.Math.Bool.{or_assoc}
+use Rattle.std.proofs.Common.{◌≡◌, true, false, List, [], ◌∷◌}
+use Rattle.std.proofs.Common.{◌++◌, refl, sym, ◌∙◌, subst, inl, inr, ◌⊎◌}
 use Rattle.std.proofs.lemmas.Bool.Decides.{Decides-and, Decides-or, Decides-like}
 use Rattle.ot_logic.specs.Lists.{IsMember, IsPart, IsSameSet, AreDistinct}
 use Rattle.ot_logic.specs.Trees.{Alphabet, Tm, Sequent}
@@ -11,31 +10,6 @@ use Rattle.ot_logic.specs.Hol.{same_tm, minus, is_in, lacking, union, once_each,
 use Rattle.ot_laws.proofs.Tests.{Tells, cases_of, same_tm-is, tm_cases}
 use Rattle.ot_laws.proofs.Sets.{distinct-append}
 use Rattle.ot_logic.proofs.Members.{IsMember-cases, IsMember-left, IsMember-right}
-
-kept-append : {X : Type 0} (b : Bool) (x : X) (xs ys zs : List X) → xs ≡ ys ++ zs
-    → cond b xs (x ∷ xs) ≡ cond b ys (x ∷ ys) ++ zs
-kept-append true x xs ys zs e = e
-kept-append false x xs ys zs e = ap (λ l. x ∷ l) e
-
-module _ {N : Type 0} (alphabet : Alphabet N) where
-  -- ---- a list in two parts
-  pub is_in-append : (t : Tm N) (g h : List (Tm N)) → is_in alphabet t (g ++ h)
-      ≡ (is_in alphabet t g || is_in alphabet t h)
-  is_in-append t [] h = refl
-  is_in-append t (u ∷ g) h = ap (λ b. same_tm alphabet u t || b) (is_in-append t g h)
-      ∙ sym (or_assoc (same_tm alphabet u t) (is_in alphabet t g) (is_in alphabet t h))
-
-  pub minus-append : (x : Tm N) (g h : List (Tm N)) → minus alphabet x (g ++ h) ≡ minus alphabet x g
-      ++ minus alphabet x h
-  minus-append x [] h = refl
-  minus-append x (y ∷ g) h = kept-append (same_tm alphabet y x) y (minus alphabet x (g ++ h)) (minus alphabet x g)
-      (minus alphabet x h) (minus-append x g h)
-
-  pub lacking-append : (g h k : List (Tm N)) → lacking alphabet g (h ++ k) ≡ lacking alphabet g h
-      ++ lacking alphabet g k
-  lacking-append g [] k = refl
-  lacking-append g (t ∷ h) k = kept-append (is_in alphabet t g) t (lacking alphabet g (h ++ k)) (lacking alphabet g h)
-      (lacking alphabet g k) (lacking-append g h k)
 
 module _ {N : Type 0} (alphabet : Alphabet N) (tells : Tells alphabet) where
   pub is_in-is : (t : Tm N) (ts : List (Tm N)) → Decides (is_in alphabet t ts) (IsMember t ts)

@@ -1,12 +1,12 @@
 -- The nesting limit of a named term is that of its nameless form.
 use Rattle.std.specs.Prelude.{nat_le, ◌&&◌}
 use Rattle.std.specs.List.{list_all}
-use Rattle.std.proofs.Common.{◌≡◌, ℕ, Bool, true, List, [], ◌∷◌, ◌++◌, map, Option, Some, None, refl, sym, ap, ◌∙◌}
+use Rattle.std.proofs.Common.{◌≡◌, ℕ, Bool, true, List, [], ◌∷◌, ◌++◌, Option, Some, None, refl, sym, ap, ◌∙◌}
 use Rattle.std.proofs.Math.Bool.{and-true}
 use Rattle.std.proofs.lemmas.Bool.{and_parts}
 use Rattle.std.proofs.lemmas.List.Folds.{list_all-append}
-use Rattle.ot_logic.specs.Trees.{Alphabet, Ty, Variable, Named, NVar, NConst, NApp, NAbs}
-use Rattle.ot_logic.specs.Hol.{type_in, depth_limit, is_shallow_ty, has_shallow_types, is_shallow_type, is_shallow}
+use Rattle.ot_logic.specs.Trees.{Alphabet, Variable, Named, NVar, NConst, NApp, NAbs}
+use Rattle.ot_logic.specs.Hol.{type_in, depth_limit, has_shallow_types, is_shallow_type, is_shallow}
 use Rattle.ot_logic.specs.NamedTerms.{place, at_place, nameless, nameless_in, named_type, named_depth, parts}
 use Rattle.ot_laws.specs.Limits.{is_shallow_named}
 use Rattle.ot_laws.proofs.Tests.{Tells}
@@ -23,12 +23,6 @@ module _ {N : Type 0} (alphabet : Alphabet N) where
   all_shallow t = list_all has_shallow_type (parts alphabet t)
 
   -- ---- the limit of a term whose parts are within it
-  pub shallow-var : (v : Variable N) → is_shallow_named alphabet (NVar v) ≡ is_shallow_ty alphabet v.ty
-  shallow-var v = and-true (is_shallow_ty alphabet v.ty)
-
-  pub shallow-const : (n : N) (ty : Ty N) → is_shallow_named alphabet (NConst n ty) ≡ is_shallow_ty alphabet ty
-  shallow-const n ty = and-true (is_shallow_ty alphabet ty)
-
   pub shallow-app : (f x : Named N) → is_shallow_named alphabet f ≡ true → is_shallow_named alphabet x ≡ true
       → is_shallow_named alphabet (NApp f x)
       ≡ (nat_le (named_depth alphabet (NApp f x)) depth_limit && has_shallow_type (NApp f x))
@@ -75,8 +69,3 @@ module _ {N : Type 0} (alphabet : Alphabet N) (tells : Tells alphabet) where
       let types = ap (has_shallow_types alphabet []) (sym (nameless_in-nil alphabet tells t))
       ∙ shallow-nameless_in [] t in
       λ i. nat_le (depth-nameless alphabet tells t i) depth_limit && types i
-
-  pub shallow-all : (ts : List (Named N)) → list_all (is_shallow alphabet) (map (nameless alphabet) ts)
-      ≡ list_all (is_shallow_named alphabet) ts
-  shallow-all [] = refl
-  shallow-all (t ∷ ts) = λ i. shallow-nameless t i && shallow-all ts i

@@ -6,7 +6,7 @@ use Rattle.ot_logic.specs.Lists.{IsMember, IsPart, IsSameSet, AreDistinct}
 use Rattle.ot_logic.specs.Trees.{Alphabet, Named, NVar, NConst, NApp, NAbs}
 use Rattle.ot_logic.specs.NamedTerms.{same_named, parts, has_named, distinct_named, size}
 use Rattle.ot_laws.proofs.Tests.{Tells, cases_of, same_named-is}
-use Rattle.ot_logic.proofs.Members.{IsMember-cases, IsMember-left, IsMember-right, distinct-length}
+use Rattle.ot_logic.proofs.Members.{distinct-length}
 
 module _ {N : Type 0} (alphabet : Alphabet N) where
   -- a term is a part of itself, and a part of a part is a part
@@ -15,20 +15,6 @@ module _ {N : Type 0} (alphabet : Alphabet N) where
   part-self (NConst n t) = inl refl
   part-self (NApp f x) = inl refl
   part-self (NAbs v b) = inl refl
-
-  pub part-then : (s t u : Named N) → IsMember s (parts alphabet t) → IsMember t (parts alphabet u)
-      → IsMember s (parts alphabet u)
-  part-then s t (NVar v) i (inl e) = subst (λ z. IsMember s (parts alphabet z)) (sym e) i
-  part-then s t (NVar v) i (inr j) = absurd j
-  part-then s t (NConst n ty) i (inl e) = subst (λ z. IsMember s (parts alphabet z)) (sym e) i
-  part-then s t (NConst n ty) i (inr j) = absurd j
-  part-then s t (NApp f x) i (inl e) = subst (λ z. IsMember s (parts alphabet z)) (sym e) i
-  part-then s t (NApp f x) i (inr j) = elim (IsMember-cases t (parts alphabet f) (parts alphabet x) j) [
-    | inl k ↦ inr (IsMember-left s (parts alphabet f) (parts alphabet x) (part-then s t f i k))
-    | inr k ↦ inr (IsMember-right s (parts alphabet f) (parts alphabet x) (part-then s t x i k))
-  ]
-  part-then s t (NAbs v b) i (inl e) = subst (λ z. IsMember s (parts alphabet z)) (sym e) i
-  part-then s t (NAbs v b) i (inr j) = inr (part-then s t b i j)
 
 module _ {N : Type 0} (alphabet : Alphabet N) (tells : Tells alphabet) where
   pub has_named-is : (t : Named N) (us : List (Named N)) → Decides (has_named alphabet t us) (IsMember t us)

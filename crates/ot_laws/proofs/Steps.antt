@@ -11,7 +11,7 @@ use Rattle.ot_logic.specs.Answers.{unless, some_or}
 use Rattle.ot_logic.specs.Rules.{has_type, op_rule, app_rule, abs_rule, within_limit, sides}
 use Rattle.ot_laws.proofs.Tests.{Tells, has_type-is}
 use Rattle.ot_laws.proofs.Typing.{app-typed, as_fun_ty-some, type-close_at}
-use Rattle.ot_laws.proofs.Equations.{as_equation-some, as_equation-equation}
+use Rattle.ot_laws.proofs.Equations.{as_equation-some}
 use Rattle.ot_logic.proofs.Results.{bind-ok, same_Ok, some_or-ok, unless-ok}
 
 pub and_then-some : {A B : Type 0} (f : A → Option B) (o : Option A) (y : B) → option_and_then f o ≡ Some y
@@ -35,10 +35,6 @@ module _ {N : Type 0} (alphabet : Alphabet N) (tells : Tells alphabet) where
       → q.concl ≡ equation alphabet e.0 e.1 e.2
   sides-ok q e h =
       as_equation-some alphabet tells q.concl e.0 e.1 e.2 (some_or-ok NotEquation (as_equation alphabet q.concl) e h)
-
-  pub sides-equation : (q : Sequent N) (ty : Ty N) (a b : Tm N) → q.concl ≡ equation alphabet ty a b
-      → sides alphabet q ≡ Ok (ty, a, b)
-  sides-equation q ty a b e = rw (e, as_equation-equation alphabet tells ty a b) refl
 
   -- ---- the rules by which types and terms are made
   pub op_rule-ok : (n : N) (ts : Tys N) (t : Ty N) → op_rule alphabet n ts ≡ Ok t

@@ -1,6 +1,6 @@
 -- Terms under closing and substitution.
 use Rattle.std.specs.Prelude.{◌≢◌}
-use Rattle.std.proofs.Common.{◌≡◌, ℕ, suc, cond, refl, sym, ap, subst, inl, inr}
+use Rattle.std.proofs.Common.{◌≡◌, ℕ, suc, cond, refl, sym, ap, inl, inr}
 use Rattle.ot_logic.specs.Trees.{Alphabet, Ty, Tys, TyVar, TyOp, NoTys, MoreTys}
 use Rattle.ot_logic.specs.Trees.{Variable, Tm, Free, Con, Bound, App, Abs}
 use Rattle.ot_logic.specs.Hol.{same_var, inst_by, inst_all, close_at, bind, IsFree}
@@ -32,25 +32,6 @@ module _ {N : Type 0} (alphabet : Alphabet N) where
       let q = bind-agree g s r x (λ y i. h y (inr i)) in
       cc
   bind-agree g s r (Abs t b) h = ap (Abs (inst_by alphabet g t)) (bind-agree g s r b h)
-
-  -- what is free after a substitution is free in the image of a free variable
-  pub free-bind : (g : N → Ty N) (s : Variable N → Tm N) (w : Variable N) (t : Tm N)
-      → IsFree alphabet w (bind alphabet g s t) → (x : Variable N) × IsFree alphabet x t × IsFree alphabet w (s x)
-  free-bind g s w (Free x) h = (x, refl, h)
-  free-bind g s w (Con n t) h = absurd h
-  free-bind g s w (Bound j) h = absurd h
-  free-bind g s w (App f x) (inl h) = let (y, i, j) = free-bind g s w f h in (y, inl i, j)
-  free-bind g s w (App f x) (inr h) = let (y, i, j) = free-bind g s w x h in (y, inr i, j)
-  free-bind g s w (Abs t b) h = free-bind g s w b h
-
-  pub bind-free : (g : N → Ty N) (s : Variable N → Tm N) (w x : Variable N) (t : Tm N) → IsFree alphabet x t
-      → IsFree alphabet w (s x) → IsFree alphabet w (bind alphabet g s t)
-  bind-free g s w x (Free y) h i = subst (λ z. IsFree alphabet w (s z)) (sym h) i
-  bind-free g s w x (Con n t) h i = absurd h
-  bind-free g s w x (Bound j) h i = absurd h
-  bind-free g s w x (App f y) (inl h) i = inl (bind-free g s w x f h i)
-  bind-free g s w x (App f y) (inr h) i = inr (bind-free g s w x y h i)
-  bind-free g s w x (Abs t b) h i = bind-free g s w x b h i
 
 module _ {N : Type 0} (alphabet : Alphabet N) (tells : Tells alphabet) where
   -- a variable that is not free is closed by no change

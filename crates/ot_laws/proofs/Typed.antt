@@ -3,16 +3,15 @@ use Rattle.std.specs.Prelude.{slice_get}
 use Rattle.std.specs.List.{AllByRecursion}
 use Rattle.std.proofs.Common.{◌≡◌, ℕ, List, [], ◌∷◌, ◌++◌, refl, sym, ap, ◌∙◌, inl, inr, map, Some}
 use Rattle.ot_logic.specs.Lists.{IsPart}
-use Rattle.ot_logic.specs.Trees.{Alphabet, Ty, Variable, Tm, App, Abs, Named, Sequent, Definition}
+use Rattle.ot_logic.specs.Trees.{Alphabet, Ty, Variable, Tm, App, Abs, Sequent, Definition}
 use Rattle.ot_logic.specs.Hol.{fun_ty, bool_ty, TypeMap, type_at, inst, HasType, type_in, TermMap}
 use Rattle.ot_logic.specs.Hol.{term_at, inst_var, subst_tm, close, opened, equation, minus, IsTyped}
 use Rattle.ot_logic.specs.Hol.{IsSequent, theorems, Derivable, Refl, Assume, EqMp, AbsThm, AppThm}
 use Rattle.ot_logic.specs.Hol.{DeductAntisym, BetaConv, Subst, Assumption, Defined, SameSet}
-use Rattle.ot_logic.specs.NamedTerms.{nameless, named_type}
 use Rattle.ot_laws.specs.Theorem.{AreSequents}
 use Rattle.ot_laws.proofs.Tests.{Tells, var_cases}
 use Rattle.ot_laws.proofs.Typing.{app-typed, applied-some, abs-some, type-bind}
-use Rattle.ot_laws.proofs.Typing.{type-close_at, type-open_at, type-nameless}
+use Rattle.ot_laws.proofs.Typing.{type-close_at, type-open_at}
 use Rattle.ot_laws.proofs.Equations.{equation-typed, equation-sides}
 use Rattle.ot_laws.proofs.Sets.{all-member, all-from_members}
 use Rattle.ot_laws.proofs.Hypotheses.{IsMember-minus}
@@ -58,15 +57,6 @@ module _ {N : Type 0} (alphabet : Alphabet N) (tells : Tells alphabet) where
       → HasType alphabet t ty → HasType alphabet (subst_tm alphabet s m t) (inst alphabet s ty)
   subst-typed s m t ty w h = type-bind alphabet tells (type_at alphabet s)
       (λ v. term_at alphabet m (inst_var alphabet s v)) [] t ty (λ v i. term_at-typed m (inst_var alphabet s v) w) h
-
-  -- what a walk gives has the type that it should have
-  pub applied-typed : (s : TypeMap alphabet) (m : TermMap alphabet) (t r : Named N) (ty : Ty N) → IsTyped alphabet m
-      → named_type alphabet t ≡ Some ty → nameless alphabet r ≡ subst_tm alphabet s m (nameless alphabet t)
-      → named_type alphabet r ≡ Some (inst alphabet s ty)
-  applied-typed s m t r ty w h e =
-      let p : type_in alphabet [] (nameless alphabet t) ≡ Some ty = type-nameless alphabet tells t ∙ h in
-      sym (type-nameless alphabet tells r)
-      ∙ (ap (type_in alphabet []) e ∙ subst-typed s m (nameless alphabet t) ty w p)
 
   -- ---- the rules
   pub refl-typed : (t : Tm N) (ty : Ty N) → HasType alphabet t ty

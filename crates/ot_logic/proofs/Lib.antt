@@ -13,3 +13,4 @@ pub mod Members
 pub mod Elements
 pub mod Results
 pub mod Putting
+pub mod Copying

@@ -2,10 +2,10 @@
 use Rattle.std.specs.Prelude.{◌≡◌, List, [], ◌∷◌, map, Option, Some, None}
 use Rattle.std.specs.Option.{option_map}
 use mathlib.Core.Path.{PathP, from_path_p}
-use Rattle.std.proofs.Common.{sym, ◌∙◌, ap}
+use Rattle.std.proofs.Common.{sym, ◌∙◌}
 use Rattle.ot_logic.specs.Trees.{Alphabet, Ty, Tys, TyVar, TyOp, NoTys, MoreTys, Variable, Tm, Free, Con, Bound, App}
-use Rattle.ot_logic.specs.Trees.{Abs, Named, NVar, NConst, NApp, NAbs, Sequent, Definition, ConDef, ListDef, TyDef}
-use Rattle.ot_logic.specs.Renamed.{map_ty, map_tys, map_variable, map_tm, map_named, map_sequent, map_definition}
+use Rattle.ot_logic.specs.Trees.{Abs, Named, NVar, NConst, NApp, NAbs, Sequent}
+use Rattle.ot_logic.specs.Renamed.{map_ty, map_tys, map_variable, map_tm, map_named, map_sequent}
 
 -- the function takes the test and the primitive names to those of the other alphabet
 pub record IsLettering {M N : Type 0} (f : M → N) (a : Alphabet M) (b : Alphabet N) : Type 0 where
@@ -17,10 +17,6 @@ pub record IsLettering {M N : Type 0} (f : M → N) (a : Alphabet M) (b : Alphab
 -- what stands at the end of a line is one
 pub one_end : (L : 𝕀 → Type 0) {x : L 0} {y z : L 1} → PathP L x y → PathP L x z → y ≡ z
 one_end L p q = sym (from_path_p L p) ∙ from_path_p L q
-
--- two lines whose ends are one have one start
-pub one_start : (L : 𝕀 → Type 0) {x y : L 0} {u v : L 1} → PathP L x u → PathP L y v → u ≡ v → x ≡ y
-one_start L p q e = (λ i. coe i 0 (k. L k) (p i)) ∙ ap (λ z. coe 1 0 (k. L k) z) e ∙ sym (λ i. coe i 0 (k. L k) (q i))
 
 pub over_option : (T : 𝕀 → Type 0) (g : T 0 → T 1) → ((x : T 0) → PathP T x (g x)) → (o : Option (T 0))
     → PathP (λ i. Option (T i)) o (option_map g o)
@@ -77,11 +73,3 @@ module _ {M N : Type 0} (e : Equiv M N) where
   pub over_sequent : (q : Sequent M) → PathP (λ i. Sequent (Line i)) q (map_sequent e.0 q)
   over_sequent q =
       λ i. record { hyps = over_list (λ i. Tm (Line i)) (map_tm e.0) over_tm q.hyps i; concl = over_tm q.concl i }
-
-  pub over_definition : (d : Definition M) → PathP (λ i. Definition (Line i)) d (map_definition e.0 d)
-  over_definition (ConDef n t) = λ i. ConDef (over_name n i) (over_tm t i)
-  over_definition (ListDef ps q) =
-      λ i. ListDef (over_list (λ i. Line i × Variable (Line i)) (λ p. (e.0 p.0, map_variable e.0 p.1))
-      (λ p i. (over_name p.0 i, over_variable p.1 i)) ps i) (over_sequent q i)
-  over_definition (TyDef n abs rep vs q) = λ i. TyDef (over_name n i) (over_name abs i) (over_name rep i)
-      (over_list (λ i. Line i) e.0 over_name vs i) (over_sequent q i)

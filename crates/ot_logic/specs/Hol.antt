@@ -383,24 +383,35 @@ module _ {N : Type 0} (alphabet : Alphabet N) where
   is_free_in_some v [] = false
   is_free_in_some v (t ∷ ts) = is_free v t || is_free_in_some v ts
 
-  -- the least set of sequents that the primitive rules of the article format give
+  -- the least set of sequents that the primitive rules of the article format give, each a case named as its command is,
+  -- over the assumptions al and the definitions dl
   pub data Derivable (al : List (Sequent N)) (dl : List (Definition N)) : List (Tm N) → Tm N → Type 0 where
+    -- a term equals itself
     Refl : {t : Tm N} {ty : Ty N} → HasType t ty → Derivable al dl [] (equation ty t t)
+    -- a formula follows from itself
     Assume : {p : Tm N} → HasType p bool_ty → Derivable al dl (p ∷ []) p
+    -- from p = q and p, q
     EqMp : {g h : List (Tm N)} {p q : Tm N} {ty : Ty N} → Derivable al dl g (equation ty p q) → Derivable al dl h p
         → Derivable al dl (g ++ h) q
+    -- from t = u, (λv. t) = (λv. u), where v is free in no hypothesis
     AbsThm : {g : List (Tm N)} {t u : Tm N} {ty : Ty N} (v : Variable N) → ¬ (IsFreeInSome v g)
         → Derivable al dl g (equation ty t u)
         → Derivable al dl g (equation (fun_ty v.ty ty) (Abs v.ty (close v t)) (Abs v.ty (close v u)))
+    -- from f = k and x = y, f x = k y
     AppThm : {g h : List (Tm N)} {f k x y : Tm N} {a b : Ty N} → Derivable al dl g (equation (fun_ty a b) f k)
         → Derivable al dl h (equation a x y) → Derivable al dl (g ++ h) (equation b (App f x) (App k y))
+    -- from p and q, p = q, where each loses the conclusion of the other from its hypotheses
     DeductAntisym : {g h : List (Tm N)} {p q : Tm N} → Derivable al dl g p → Derivable al dl h q
         → Derivable al dl (minus q g ++ minus p h) (equation bool_ty p q)
+    -- an abstraction applied to u is its body with u in place of the bound variable
     BetaConv : {b u : Tm N} {a ty : Ty N} → HasType (App (Abs a b) u) ty
         → Derivable al dl [] (equation ty (App (Abs a b) u) (opened b u))
+    -- types for type variables, then terms for variables, in hypotheses and conclusion at once
     Subst : {g : List (Tm N)} {p : Tm N} (s : TypeMap) (m : TermMap) → IsTyped m → Derivable al dl g p
         → Derivable al dl (map (subst_tm s m) g) (subst_tm s m p)
+    -- the sequents of the list of assumptions
     Assumption : {q : Sequent N} (i : ℕ) → slice_get al i ≡ Some q → Derivable al dl q.hyps q.concl
+    -- the theorems of the list of definitions
     Defined : {d : Definition N} {q : Sequent N} (i j : ℕ) → slice_get dl i ≡ Some d → slice_get (theorems d) j
         ≡ Some q → Derivable al dl q.hyps q.concl
     -- the hypotheses are a set: one sequent has many lists

@@ -1,4 +1,4 @@
--- A name read from left to right. Public contracts speak of the relation Spells instead.
+-- A name read from left to right.
 use Rattle.std.specs.Prelude.{◌<◌, length, ℕ, List, [], ◌∷◌, ◌++◌, ◌==◌, if◌then◌else◌}
 use Rattle.std.specs.Prelude.{◌≡◌, Result, Ok, Err, Option, Some, None}
 use Rattle.ot_logic.specs.declared.name.NameFault.{NameFault}

@@ -108,6 +108,17 @@ impl Name {
         Name { components }
     }
 
+    /// A name equal to this one. It fails only where memory runs out.
+    pub fn copy(&self, alloc: Global) -> Result<Name, AllocError>
+        ensures { IfOk result (λ copy. copy ≡ self.now) }
+    {
+        let mut components = Vec::new(alloc);
+        for component in &self.components {
+            components.push(Vec::from_slice(alloc, component.as_slice())?)?;
+        }
+        Ok(Name { components })
+    }
+
     /// The components, the base name last.
     pub fn components(&self) -> &[Vec<u8>]
         ensures value { map (λ c. c.items) result.now ≡ self.now }

@@ -1,25 +1,24 @@
 -- Maps with a pair more, by look-up, and what the matcher's steps give.
-use Rattle.std.specs.Prelude.{◌==◌, ◌↔◌, is_some, Result, Ok, Err, IfOk}
+use Rattle.std.specs.Prelude.{◌↔◌, is_some, Result, Ok, Err, IfOk}
 use Rattle.std.specs.List.{All}
 use Rattle.std.specs.Map.{lookup}
 use Rattle.std.specs.Option.{option_map}
-use Rattle.std.proofs.Common.{◌≡◌, ℕ, suc, ◌<◌, ◌+◌, Bool, true, false, cond, List, [], ◌∷◌}
-use Rattle.std.proofs.Common.{◌++◌, length, map, drop, get_or, drop-cons, add-one, Option}
-use Rattle.std.proofs.Common.{Some, None, inl, inr, refl, sym, ap, subst, ◌∙◌, arith}
+use Rattle.std.proofs.Common.{◌≡◌, ℕ, suc, ◌+◌, Bool, true, false, cond, List, [], ◌∷◌}
+use Rattle.std.proofs.Common.{◌++◌, length, map, Option}
+use Rattle.std.proofs.Common.{Some, None, inl, inr, refl, sym, ap, subst, ◌∙◌}
 use Rattle.std.proofs.lemmas.Bool.{cases_Bool}
 use Rattle.std.proofs.lemmas.List.Elements.{All-head, All-tail}
 use Rattle.std.proofs.lemmas.Option.{same_Some}
 use Rattle.ot_logic.specs.Lists.{IsMember}
 use Rattle.ot_logic.specs.Names.{Name}
 use Rattle.ot_logic.specs.Naming.{names}
-use Rattle.ot_logic.specs.Trees.{Ty, Tys, NoTys, MoreTys, Variable, Tm, Free, Con}
-use Rattle.ot_logic.specs.Trees.{Bound, App, Abs, Named, NVar, NConst, NApp, NAbs}
+use Rattle.ot_logic.specs.Trees.{Ty, Tys, NoTys, MoreTys, Variable, Tm, Free}
+use Rattle.ot_logic.specs.Trees.{Named}
 use Rattle.ot_logic.specs.Hol.{type_in}
-use Rattle.ot_logic.specs.NamedTerms.{IsFreeIn, place, at_place, nameless, nameless_in, named_type}
+use Rattle.ot_logic.specs.NamedTerms.{IsFreeIn, place, nameless, nameless_in, named_type}
 use Rattle.ot_laws.proofs.Typing.{type-nameless}
 use Rattle.ot_laws.proofs.Tests.{tells_names}
 use Rattle.ot_match.specs.Walk.{◌>>=◌, put, put_term, walk_type, walk_types, walk_var, walk_term, Maps}
-use Rattle.ot_view.specs.Nodes.{IsNoApplication, IsNoAbstraction}
 use Rattle.ot_kernel.specs.State.{State, type_at, types_at}
 use Rattle.ot_logic.specs.PlainTrees.{tys_of}
 use Rattle.ot_match.specs.Steps.{answered, any_bound, Meets}
@@ -29,7 +28,6 @@ use Rattle.ot_match.proofs.Leading.{met-untyped, apart-is}
 use Rattle.ot_match.proofs.Walking.{walk_matches}
 
 -- ---- maps
-
 pub answered_cond : {M : Type 0} (b : Bool) (m : M) → cond b (Some m) None ≡ answered b m
 answered_cond true m = refl
 answered_cond false m = refl
@@ -76,72 +74,9 @@ lookup_values test g (p ∷ m) =
     elim (cases_Bool (test p.0)) [ inl t ↦ rw t refl | inr t ↦ rw t (lookup_values test g m) ]
 
 -- ---- terms
-
 module _ (e : List (Variable Name)) (w : Maps names) where
-  no_app_leaf : (f x : Tm Name) (v : Variable Name) (o : Option ℕ) → walk_term names (App f x) (at_place names v o) w
-      ≡ None
-  no_app_leaf f x v None = refl
-  no_app_leaf f x v (Some j) = refl
-
-  pub walk_no_application : (f x : Tm Name) (t : Named Name) → IsNoApplication t
-      → walk_term names (App f x) (nameless_in names e t) w ≡ None
-  walk_no_application f x (NVar v) h = no_app_leaf f x v (place names e v)
-  walk_no_application f x (NConst n t) h = refl
-  walk_no_application f x (NApp g y) h = absurd h
-  walk_no_application f x (NAbs v b) h = refl
-
-  no_abs_leaf : (t : Ty Name) (b : Tm Name) (v : Variable Name) (o : Option ℕ)
-      → walk_term names (Abs t b) (at_place names v o) w ≡ None
-  no_abs_leaf t b v None = refl
-  no_abs_leaf t b v (Some j) = refl
-
-  pub walk_no_abstraction : (ty : Ty Name) (b : Tm Name) (t : Named Name) → IsNoAbstraction t
-      → walk_term names (Abs ty b) (nameless_in names e t) w ≡ None
-  walk_no_abstraction ty b (NVar v) h = no_abs_leaf ty b v (place names e v)
-  walk_no_abstraction ty b (NConst n t) h = refl
-  walk_no_abstraction ty b (NApp g y) h = refl
-  walk_no_abstraction ty b (NAbs v c) h = absurd h
-
-  no_con_leaf : (n : Name) (t : Ty Name) (v : Variable Name) (o : Option ℕ)
-      → walk_term names (Con n t) (at_place names v o) w ≡ None
-  no_con_leaf n t v None = refl
-  no_con_leaf n t v (Some j) = refl
-
-  pub walk_con_var : (n : Name) (t : Ty Name) (v : Variable Name)
-      → walk_term names (Con n t) (nameless_in names e (NVar v)) w ≡ None
-  walk_con_var n t v = no_con_leaf n t v (place names e v)
-
-  -- the place of a variable against another place
-  pub walk_place : (j : ℕ) (v : Variable Name) (b : Bool)
-      → ((b ≡ true → place names e v ≡ Some j) × (place names e v ≡ Some j → b ≡ true))
-      → walk_term names (Bound j) (nameless_in names e (NVar v)) w ≡ answered b w
-  walk_place j v b is = at_option (place names e v) b is.0 is.1 where
-    at_option : (o : Option ℕ) (c : Bool) → (c ≡ true → o ≡ Some j) → (o ≡ Some j → c ≡ true)
-        → walk_term names (Bound j) (at_place names v o) w ≡ answered c w
-    at_option None true to back = absurd (never (to refl)) where
-      never : ◌≡◌ {A = Option ℕ} None (Some j) → ⊥
-      never h = cc
-    at_option None false to back = refl
-    at_option (Some i) true to back = rw (same_number (same_Some i j (to refl))) refl where
-      same_number : i ≡ j → (j == i) ≡ true
-      same_number h = ap (λ z. z == i) (sym h) ∙ itself i where
-        itself : (n : ℕ) → (n == n) ≡ true
-        itself n = grind arith
-    at_option (Some i) false to back = elim (cases_Bool (j == i)) [
-      | inl h ↦ absurd (other (back (ap Some (same_of i j h))))
-      | inr h ↦ rw h refl
-    ] where
-      other : ◌≡◌ {A = Bool} false true → ⊥
-      other h = cc
-
-      same_of : (i j : ℕ) → (j == i) ≡ true → i ≡ j
-      same_of i j h = grind arith
-
   -- a variable
   module _ (v : Variable Name) (t : Named Name) where
-    pub variable_met : Meets true e t → walk_term names (Free v) (nameless_in names e t) w ≡ None
-    variable_met none = ap (λ o. walk_var names v o (nameless_in names e t) w) none
-
     module _ (u : Ty Name) (apart : Meets false e t) (typed : named_type names t ≡ Some u) where
       variable_is : walk_term names (Free v) (nameless_in names e t) w ≡ walk_var names v (Some u) (nameless names t)
           w
@@ -172,22 +107,6 @@ module _ (e : List (Variable Name)) (w : Maps names) where
           paired false = refl
 
 -- ---- types in a row
-
--- ---- lists from a place on
-
-module _ {K X : Type 0} (test : K → Bool) (m : List (K × X)) (k : ℕ) (d : K × X) where
-  next_cell : k < length m → drop k m ≡ get_or m k d ∷ drop (k + 1) m
-  next_cell h = drop-cons m k d h ∙ ap (λ n. get_or m k d ∷ drop n m) (sym (add-one k))
-
-  pub lookup_here : k < length m → test (get_or m k d).0 ≡ true → lookup test (drop k m) ≡ Some (get_or m k d).1
-  lookup_here h t = ap (lookup test) (next_cell h) ∙ rw t refl
-
-  pub lookup_skip : k < length m → test (get_or m k d).0 ≡ false
-      → lookup test (drop k m) ≡ lookup test (drop (k + 1) m)
-  lookup_skip h t = ap (lookup test) (next_cell h) ∙ rw t refl
-
--- ---- types in a row
-
 none_after : {A B : Type 0} (o : Option A) (g : A → Option B) → ((x : A) → g x ≡ None) → (o >>= g) ≡ None
 none_after None g h = refl
 none_after (Some x) g h = h x
@@ -203,7 +122,6 @@ other_lengths (t ∷ ts) (u ∷ us) f nil more apart s =
     (λ r. other_lengths ts us f nil more (λ e. apart (ap suc e)) r))
 
 -- ---- binders and free variables
-
 some_place : (o : Option ℕ) → is_some o ≡ true → (j : ℕ) × (o ≡ Some j)
 some_place None e = absurd cc
 some_place (Some j) e = (j, refl)
@@ -240,7 +158,6 @@ meets_by e t vs free false is =
     apart-is names tells_names e t (λ v m. no_place (place names e v) (none_found e vs (sym is) v ((free v).1 m)))
 
 -- ---- answers
-
 pub if_ok_more : {T E : Type 0} (P Q : T → Type 0) (r : Result T E) → IfOk r P → ((x : T) → P x → Q x) → IfOk r Q
 if_ok_more P Q (Ok x) h more = more x h
 if_ok_more P Q (Err e) h more = tt

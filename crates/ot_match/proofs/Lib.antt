@@ -6,7 +6,5 @@ pub mod Rows
 pub mod Adding
 pub mod Walking
 pub mod Leading
--- Names, copied.
-pub mod Components
 -- Maps, and the steps of the matcher.
 pub mod Holding

@@ -16,7 +16,7 @@ ghost use Rattle.ot_view.specs.Binders.{binders_at, AreKeys};
 ghost use Rattle.ot_match.specs.Steps.{answered, any_bound, Meets};
 
 use crate::find::Match;
-use crate::names::{copy_name, is_name, is_same_name};
+use crate::names::{is_name, is_same_name};
 use crate::types::match_type;
 use ot_kernel::Kernel;
 use ot_logic::{Memory, Name, Tm, Ty};
@@ -134,7 +134,7 @@ fn put_term(
     match held_term(kernel, vars, name, ty) {
         Some(held) => Ok(same_term(kernel, id, held)),
         None => {
-            let name = copy_name(alloc, name)?;
+            let name = name.copy(alloc)?;
             vars.push((name, ty, id))?;
             Ok(true)
         }

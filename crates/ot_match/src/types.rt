@@ -10,7 +10,7 @@ ghost use Rattle.ot_logic.specs.PlainTrees.{type_of_tree, tys_of};
 ghost use Rattle.ot_match.specs.Found.{types_of, AreTypesIn};
 ghost use Rattle.ot_match.specs.Steps.{answered};
 
-use crate::names::{copy_name, is_name, is_same_name};
+use crate::names::{is_name, is_same_name};
 use ot_kernel::Kernel;
 use ot_logic::{Memory, Name, Ty};
 use ot_type::{TypeId, TypeNode};
@@ -47,7 +47,7 @@ fn put_type(
     match held_type(types, name) {
         Some(held) => Ok(same_type(kernel, id, held)),
         None => {
-            let name = copy_name(alloc, name)?;
+            let name = name.copy(alloc)?;
             types.push((name, id))?;
             Ok(true)
         }

@@ -51,36 +51,6 @@ fn substitute<N: Nodes<L>, L>(
     if s.types().is_empty() && terms.is_closed(t) {
         return Ok(t);
     }
-    substitute_open(alloc, terms, names, results, s, t, steps)
-}
-
-/// The same, node by node.
-fn substitute_open<N: Nodes<L>, L>(
-    alloc: Global,
-    terms: &mut N,
-    names: &mut Names,
-    results: &mut Results,
-    s: &Subst,
-    t: TermId,
-    steps: &mut Steps<L>,
-) -> Result<TermId, TableFault>
-    requires inside { t < length (N.table terms.old).terms }
-    requires subst { IsSubstOf (N.table terms.old) s.now }
-    requires below { NamesBelow (length names.old) (N.table terms.old) }
-    ensures ok { IfOk result
-        (λ id. HasForm (N.table terms.new) id
-        (substituted (N.table terms.old) s.now (nameless numbers (term_at (N.table terms.old).terms t)))) }
-    ensures nesting { result ≡ Err TableFault.Nesting → is_shallow numbers
-        (substituted (N.table terms.old) s.now (nameless numbers (term_at (N.table terms.old).terms t))) ≡ false }
-    ensures counted { HasNoClash numbers (type_part (N.table terms.old) s.now)
-        (variable_part (N.table terms.old) s.now) (term_at (N.table terms.old).terms t)
-        → CountsParts (N.table terms.old) [] steps.old steps.new (term_at (N.table terms.old).terms t) (suc t) }
-    ensures later { IsLater names.old names.new (N.table terms.old) (N.table terms.new) }
-    ensures name_table { IsNameTable names.new }
-{
-    // What holds of each table of names, and of each table of terms.
-    let _count = names.count();
-    let _ty = terms.type_of(t);
     let renamed = Renamed::Outermost;
     let work = Work {
         alloc,

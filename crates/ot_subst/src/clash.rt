@@ -136,7 +136,7 @@ fn is_put_in<N: Nodes<L>, L>(
     Ok(is_free)
 }
 
-/// What was gathered, taken out, or else is gathered now.
+/// What was gathered before, or else is gathered now.
 fn known_frees<N: Nodes<L>, L>(
     alloc: Global,
     terms: &N,

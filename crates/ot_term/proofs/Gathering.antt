@@ -135,9 +135,6 @@ module _ (tys : List (Ty ℕ)) where
 
 -- ---- the own types of terms
 module _ (t : TermTable) where
-  pub own_none : AreOwnTypes t [] []
-  own_none = record { each = λ k never. absurd never; all = λ i ty never e. absurd never }
-
   -- one more term
   pub own_skip : (ids ks : List ℕ) (i : ℕ) → AreOwnTypes t ids ks → own_type (term_at t.terms i) ≡ None
       → AreOwnTypes t (ids ++ i ∷ []) ks

@@ -78,13 +78,11 @@ acceptable c =
 pub accept-requires : goal.accept-requires
 accept-requires c =
     let d = (goal.at.accept-requires c).After-as_slice in
-    let a = ap symbol_of c.operator_symbol.ensures in
-    let b = ap symbol_of c.constant_symbol.ensures in
-    let e = ap symbol_of c.constant_symbol-2.ensures in
+    let symbols = ap (map symbol_of) c.type_symbols-defined.ensures in
     let uses = ap (map symbol_of) c.as_slice.ensures.value in
     let ths = added d in
     subst (λ (z : List Theorem × List (Symbol ℕ) × List (Symbol ℕ)). IsAcceptable c.args.self.now z.0 (definition d)
-    z.1 z.2) (λ j. (sym ths j, sym a j ∷ sym b j ∷ sym e j ∷ [], sym uses j)) (acceptable d)
+    z.1 z.2) (λ j. (sym ths j, sym symbols j, sym uses j)) (acceptable d)
 
 pub returns-clause-ok : goal.returns-clause-ok
 returns-clause-ok c =
