@@ -9,7 +9,7 @@ use Rattle.std.proofs.lemmas.List.{take_more, map-append}
 use Rattle.ot_logic.specs.Names.{Name}
 use Rattle.ot_logic.specs.Naming.{names}
 use Rattle.ot_logic.specs.Trees.{Tm, Sequent}
-use Rattle.ot_text.specs.Pages.{Printed, Bytes, Full, NoMemory, put, is_stopped, IsPut, IsCopied, printed}
+use Rattle.ot_text.specs.Pages.{Printed, Bytes, Full, NoMemory, put, is_stopped, IsPut, printed}
 use Rattle.ot_text.proofs.Putting.{then, same-text, stays}
 use Rattle.ot_kernel.specs.State.{State}
 use Rattle.ot_match.specs.Matching.{matched}
@@ -20,7 +20,6 @@ use Rattle.ot_find.specs.Texts.{found_text, matches_text, HasFound}
 use Rattle.ot_find.specs.declared.search.Search.{Search}
 
 -- ---- lists of matches
-
 pub matches-append : (fs gs : List Found) → matches_text (fs ++ gs) ≡ matches_text fs ++ matches_text gs
 matches-append [] gs = refl
 matches-append (f ∷ fs) gs =
@@ -62,7 +61,6 @@ in-more p source at xs i x d fs h is =
     ∙ ap (map at) (ap (λ y. take i xs ++ y ∷ []) is ∙ sym (take_more xs i d h))))
 
 -- ---- pages
-
 -- a page that takes more isn't stopped
 still-open : (x : List ℕ) (s t : Printed) → IsPut x s t → is_stopped t ≡ false → is_stopped s ≡ false
 still-open x (Bytes bs room) t p h = refl
@@ -80,9 +78,6 @@ still-open x NoMemory t p h = go p.state
 module _ (x : List ℕ) (max : ℕ) where
   le-true : nat_le (length x) max ≡ true → length x ≤ max
   le-true h = grind (arith, nat_tests)
-
-  le-false : nat_le (length x) max ≡ false → max < length x
-  le-false h = grind (arith, nat_tests)
 
   -- the text of a page that isn't stopped, and which the limit allows
   held : (bs : List ℕ) (room : ℕ) → IsPut x (Bytes [] max) (Bytes bs room) → (bs ≡ x) × (length x ≤ max)
@@ -103,25 +98,7 @@ module _ (x : List ℕ) (max : ℕ) where
   held-within Full p h = cc
   held-within NoMemory p h = cc
 
-  pub copied : (s : Printed) (new : List ℕ) → IsPut x (Bytes [] max) s → IsCopied s [] new
-      → (new ≡ x) × (is_stopped s ≡ false)
-  copied (Bytes bs room) new p q = (q ∙ (held bs room p).0, refl)
-  copied Full new p q = absurd q
-  copied NoMemory new p q = absurd q
-
-  pub too-long : IsPut x (Bytes [] max) Full → max < length x
-  too-long p = go p.state
-    where
-      fits : (b : Bool) → nat_le (length x) max ≡ b → Full ≡ cond b (Bytes x (max - length x)) Full → max < length x
-      fits true h e = cc
-      fits false h e = le-false h
-
-      go : (Full ≡ NoMemory) ⊎ (Full ≡ cond (nat_le (length x) max) (Bytes x (max - length x)) Full) → max < length x
-      go (inl e) = cc
-      go (inr e) = fits (nat_le (length x) max) refl e
-
 -- ---- searches
-
 -- further matches, whose text was put on the page and which were counted
 pub found-more : (old new : Search) (fs gs : List Found) → new.max ≡ old.max
     → IsPut (matches_text gs) (printed old.page) (printed new.page)

@@ -320,19 +320,3 @@ module _ {A B : Type 0} (Writes : ℕ → List ℕ → A → Type 0) (meant_at :
     both (Wrong a) (NoLine b d) = absurd (none-wrong line j k f b a)
     both (Wrong a) (TooMany b d) = absurd (many-wrong line j k f b a)
     both (Wrong a) (Wrong b) = one-wrong line k j f g a b
-
-  -- each line stands for a sequent or is refused
-  pub every-line : (line : List ℕ) → ((s : B) × StandsFor Writes meant_at line s)
-      ⊎ ((k : ℕ) × (f : TextFault) × Cause line k f)
-  every-line line = go (read open_limit line) refl where
-    meant : (q : A) → Writes open_limit line q → (o : Result (B) Refusal) → meant_at q ≡ o
-        → ((s : B) × StandsFor Writes meant_at line s) ⊎ ((k : ℕ) × (f : TextFault) × Cause line k f)
-    meant q w (Ok s) e = inl (s, record { written = q; text_of = w; meant = e })
-    meant q w (Err (k, f)) e = inr (k, f, Wrong (record { written = q; text_of = w; meant = e }))
-
-    go : (o : Reading A) → read open_limit line ≡ o → ((s : B) × StandsFor Writes meant_at line s)
-        ⊎ ((k : ℕ) × (f : TextFault) × Cause line k f)
-    go (Got q []) e = meant q (reads-as line q e) (meant_at q) refl
-    go (Got q (b ∷ t)) e = inr (length line - length (b ∷ t), Syntax, NoLine (trails line q b t e) refl)
-    go (Halted NoForm r) e = inr (length line - length r, Syntax, NoLine (stops line r e) refl)
-    go (Halted OneTooMany r) e = inr (length line - length r, TooManyOpen, TooMany (opens line r e) refl)

@@ -32,9 +32,6 @@ pub record IsQuote (r : List ℕ) : Type 0 where
   pub rest : List ℕ
   pub is : r ≡ 34 ∷ rest
 
-pub inside-front : (c : List ℕ) (d : List ℕ) (ds : Name) → inside (c ∷ d ∷ ds) ≡ component c ++ 46 ∷ inside (d ∷ ds)
-inside-front c d ds = refl
-
 -- ---- each spelling is read
 special-parts : (b : ℕ) → is_special b ≡ false → ((b == 34) ≡ false) × ((b == 92) ≡ false) × ((b == 46) ≡ false)
 special-parts b = go (b == 34) (b == 92) (b == 46) where

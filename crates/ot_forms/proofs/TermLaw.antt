@@ -23,7 +23,6 @@ use Rattle.ot_forms.proofs.ConstantWords.{constant-reads}
 use Rattle.ot_forms.proofs.Terms.{SaysTerm}
 use Rattle.ot_forms.proofs.TermTexts.{opened-reads, brace-reads}
 use Rattle.ot_forms.proofs.WholeTerms.{term-reads}
-use Rattle.ot_forms.proofs.Halting.{StopsAt, OpensTooMany, stops, opens}
 use Rattle.ot_forms.proofs.Growing.{left, Grows, Shrinks, reads-shrinks, IsPlain, plain-grows}
 use Rattle.ot_forms.proofs.Growing.{literal-plain, literal-shrinks, mapped-plain, kept-plain, next-grows}
 use Rattle.ot_forms.proofs.Growing.{mapped-grows, mapped-shrinks, next-shrinks, cond-grows, mapped-left}
@@ -302,16 +301,3 @@ module _ (hidden : List (Symbol Name)) (nt : IsNotation hidden) where
 
   pub weaker : (n m : ℕ) (w : Written) (x : List ℕ) → SaysTerm hidden n w x → SaysTerm hidden (n + m) w x
   weaker n m w x h = let k = h.within in record { text = h.text; fine = h.fine; within = omega (arith, k) }
-
-  -- ---- the law
-  abbrev pub TermStopsAt : ℕ → List ℕ → List ℕ → Type 0
-  TermStopsAt = StopsAt (SaysTerm hidden) term_from term_reads term-grows weaker
-
-  abbrev pub TermOpensTooMany : ℕ → List ℕ → List ℕ → Type 0
-  TermOpensTooMany = OpensTooMany (SaysTerm hidden) term_from term_reads term-grows weaker
-
-  pub term-stops : (n : ℕ) (s r : List ℕ) → term_from n s ≡ Halted NoForm r → TermStopsAt n s r
-  term-stops = stops (SaysTerm hidden) term_from term_reads term-grows weaker
-
-  pub term-opens : (n : ℕ) (s r : List ℕ) → term_from n s ≡ Halted OneTooMany r → TermOpensTooMany n s r
-  term-opens = opens (SaysTerm hidden) term_from term_reads term-grows weaker

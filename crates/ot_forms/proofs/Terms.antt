@@ -272,9 +272,6 @@ module _ (hidden : List (Symbol Name)) where
         (sym (after-text (codes " ") (Image (joined_by a o) (SaysTerm m)) w y h)) refl)
 
     -- ---- first bytes
-    abbrev opens_term : ℕ → Bool
-    opens_term b = (b == 40) || (b == 123)
-
     begins-more : (test : ℕ → Bool) (t : Bool) (x z y : List ℕ) → Begins test t x → y ≡ x ++ z → Begins test t y
     begins-more test t x z y w e =
         record { byte = w.byte; rest = w.rest ++ z; is = e ∙ ap (λ q. q ++ z) w.is; tells = w.tells }
@@ -497,9 +494,6 @@ module _ (hidden : List (Symbol Name)) where
       then = typed-some (codes "a");
       is = refl;
     }
-
-    binding-some : Bound_by (Binding (codes "a") some_type some_term) (codes "\\a : 'a . a")
-    binding-some = after-some (codes "\\") Part_typed _ _ part_typed-some
 
     binding-reads : Reads Bound_by IsLast (binding_at constant_at type term)
     binding-reads = weaken Bound_by IsEnd IsLast (binding_at constant_at type term) last-end

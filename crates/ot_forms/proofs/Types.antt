@@ -41,9 +41,6 @@ pub record SaysVariable (n : Name) (x : List ℕ) : Type 0 where
 ends_at : (y r z : List ℕ) (b : ℕ) → y ≡ b ∷ z → ends_word (b ∷ []) ≡ true → ends_word (y ++ r) ≡ true
 ends_at y r z b e h = ap (λ q. ends_word (q ++ r)) e ∙ h
 
-has : (x y : List ℕ) (b : ℕ) (z : List ℕ) → x ≡ y → y ≡ b ∷ z → HasByte x
-has x y b z p q = record { byte = b; rest = z; is = p ∙ q }
-
 -- a word's first byte
 abbrev pub starts_word : ℕ → Bool
 starts_word b = is_letter b || (b == 34)
@@ -132,11 +129,6 @@ module _ (hidden : List (Symbol Name)) where
     -- ---- a space, and what goes on behind it
     abbrev Gap : (Ty Name → List ℕ → Type 0) → Ty Name → List ℕ → Type 0
     Gap Q = Joined (Is (codes " ")) (λ _. Q)
-
-    gap-reads : (Q : Ty Name → List ℕ → Type 0) (g : List ℕ → Reading (Ty Name)) → Reads Q IsEnd g
-        → (t : Ty Name) (y : List ℕ) → Q t y → Reads (Gap Q) IsEnd (λ r. next (literal_at (codes " ") r) (λ _ q. g q))
-    gap-reads Q g h t y q = join (Is (codes " ")) (λ _. Q) Any IsEnd (literal_at (codes " ")) (λ _. g)
-        (literal-reads (codes " ")) (λ _. h) (λ _. (t, y, q)) (λ _ _ _ _ _ _. tt)
 
     gap-ends : (Q : Ty Name → List ℕ → Type 0) (t : Ty Name) (y r : List ℕ) → Gap Q t y → IsEnd (y ++ r)
     gap-ends Q t y r w = ends_at y r w.back 32 (w.is ∙ ap (λ z. z ++ w.back) w.says) refl

@@ -1,4 +1,4 @@
--- The forms read from left to right. Public contracts speak of the forms instead.
+-- The forms read from left to right.
 use Rattle.std.specs.Prelude.{ℕ, zero, suc, ◌-◌, Bool, true, false, cond, ◌&&◌, ◌||◌, not}
 use Rattle.std.specs.Prelude.{◌==◌, List, [], ◌∷◌, length, codes, Option, Some, None}
 use Rattle.std.specs.Option.{unwrap_or}

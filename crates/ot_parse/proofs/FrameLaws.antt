@@ -10,7 +10,7 @@ use Rattle.ot_text.specs.Texts.{is_function}
 use Rattle.ot_forms.specs.Words.{IsNotation}
 use Rattle.ot_forms.specs.Reading.{Reason, NoForm, Reading, Got, Halted, next, mapped, kept}
 use Rattle.ot_forms.specs.Reading.{literal_at, operator_at, range_at, further_at}
-use Rattle.ot_forms.specs.Reading.{operands_at, behind_word_at, closed_type_at, type_at}
+use Rattle.ot_forms.specs.Reading.{behind_word_at, closed_type_at, type_at}
 use Rattle.ot_forms.proofs.Types.{more-step}
 use Rattle.ot_forms.proofs.TypeLaw.{reads}
 use Rattle.ot_parse.specs.declared.halt.Halt.{Halt}
@@ -75,35 +75,6 @@ module _ (hidden : List (Symbol Name)) where
         (next (operator_at hidden (b ∷ s))
         (λ n r. next (literal_at (codes " ") r) (λ _ q. behind_word_at hidden read n q)))) h)
 
-    pub behind-word : (b : ℕ) (s : List ℕ) (n : Name) (r q : List ℕ) → operator_at hidden (b ∷ s) ≡ Got n r
-        → literal_at (codes " ") r ≡ Got tt q
-        → closed (next (operator_at hidden (b ∷ s))
-        (λ n r. next (literal_at (codes " ") r) (λ _ q. behind_word_at hidden read n q)))
-        ≡ closed (behind_word_at hidden read n q)
-    behind-word b s n r q e d =
-        ap closed (ap (λ o. next o (λ n r. next (literal_at (codes " ") r) (λ _ q. behind_word_at hidden read n q))) e
-        ∙ ap (λ o. next o (λ _ q. behind_word_at hidden read n q)) d)
-
-    -- an arrow behind it
-    pub behind-arrow : (n : Name) (s q : List ℕ) → literal_at (codes "-> ") (45 ∷ s) ≡ Got tt q
-        → closed (behind_word_at hidden read n (45 ∷ s)) ≡ next (read q) (after hidden read (Range (TyOp n NoTys)))
-    behind-arrow n s q e =
-        ap closed (ap (λ o. next o (λ _ r. mapped (fun_ty names (TyOp n NoTys)) (read r))) e)
-        ∙ through (fun_ty names (TyOp n NoTys)) (read q) (λ t r. mapped (λ _. t) (literal_at (codes ")") r))
-
-    -- an argument behind it
-    pub behind-operand : (n : Name) (b : ℕ) (s : List ℕ) → (b == 45) ≡ false
-        → closed (behind_word_at hidden read n (b ∷ s)) ≡ next (read (b ∷ s)) (after hidden read (Argument n []))
-    behind-operand n b s h =
-        ap closed (ap (λ t. cond t (range_at hidden read (TyOp n NoTys) (b ∷ s)) (operands_at hidden read n (b ∷ s)))
-        h) ∙ go (read (b ∷ s)) where
-          go : (o : Reading (Ty Name))
-              → closed (mapped (TyOp n)
-              (kept (is_operator_type n) (next o (λ t r. mapped (MoreTys t) (further_at hidden read 0 r)))))
-              ≡ next o (after hidden read (Argument n []))
-          go (Got t r) = refl
-          go (Halted k r) = refl
-
     -- ---- behind a type
     -- a domain: the arrow
     pub after-domain : (t : Ty Name) (s r q : List ℕ) → literal_at (codes " ") s ≡ Got tt r → literal_at (codes "-> ")
@@ -140,22 +111,6 @@ module _ (hidden : List (Symbol Name)) where
             (twice (MoreTys u) (λ us. joined ts (MoreTys t us)) (further_at hidden read 0 r)
             ∙ mapped-same _ _ (further_at hidden read 0 r) (λ us. sym (joined-more ts t (MoreTys u us))))
         go (Halted k r) = refl
-
-    -- the last argument
-    pub last-argument : (n : Name) (ts : List (Ty Name)) (t : Ty Name) (s : List ℕ) → further_at hidden read 0 s
-        ≡ Got NoTys s → is_operator_type n (joined ts (MoreTys t NoTys)) ≡ true
-        → after hidden read (Argument n ts) t s ≡ mapped (λ _. TyOp n (joined ts (MoreTys t NoTys)))
-        (literal_at (codes ")") s)
-    last-argument n ts t s e h =
-        ap (λ o. closed (mapped (TyOp n) (kept (is_operator_type n) (mapped (λ us. joined ts (MoreTys t us)) o)))) e
-        ∙ ap (λ b. closed (mapped (TyOp n) (cond b (Got (joined ts (MoreTys t NoTys)) s) (Halted NoForm s)))) h
-
-    pub no-arguments : (n : Name) (ts : List (Ty Name)) (t : Ty Name) (s : List ℕ) → further_at hidden read 0 s
-        ≡ Got NoTys s → is_operator_type n (joined ts (MoreTys t NoTys)) ≡ false
-        → after hidden read (Argument n ts) t s ≡ Halted NoForm s
-    no-arguments n ts t s e h =
-        ap (λ o. closed (mapped (TyOp n) (kept (is_operator_type n) (mapped (λ us. joined ts (MoreTys t us)) o)))) e
-        ∙ ap (λ b. closed (mapped (TyOp n) (cond b (Got (joined ts (MoreTys t NoTys)) s) (Halted NoForm s)))) h
 
 -- ---- halts
 module _ (hidden : List (Symbol Name)) (m : ℕ) where

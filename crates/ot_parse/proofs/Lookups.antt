@@ -15,23 +15,6 @@ use Rattle.ot_parse.specs.declared.notation.WordKind.{WordKind}
 use Rattle.ot_parse.specs.declared.notation.WordKind.TheVariants as kinds
 use Rattle.ot_parse.specs.Symbols.{symbol_of}
 
--- the kind alone counts
-pub taken-kind : (h : List (Symbol Name)) (k : WordKind) (n m : Name) (x : List ℕ) → is_taken h (symbol_of (k, n)) x
-    ≡ is_taken h (symbol_of (k, m)) x
-taken-kind [] k n m x = refl
-taken-kind (t ∷ h) kinds.Con n m x = ap (λ b. (same_kind (ConSymbol n) t && same_text x (base (symbol_name t))) || b)
-    (taken-kind h kinds.Con n m x) ∙ ap (λ b. (b && same_text x (base (symbol_name t))) || is_taken h (ConSymbol m) x)
-    (same t) where
-      same : (t : Symbol Name) → same_kind (ConSymbol n) t ≡ same_kind (ConSymbol m) t
-      same (ConSymbol j) = refl
-      same (OpSymbol j) = refl
-taken-kind (t ∷ h) kinds.TyOp n m x = ap (λ b. (same_kind (OpSymbol n) t && same_text x (base (symbol_name t))) || b)
-    (taken-kind h kinds.TyOp n m x) ∙ ap (λ b. (b && same_text x (base (symbol_name t))) || is_taken h (OpSymbol m) x)
-    (same t) where
-      same : (t : Symbol Name) → same_kind (OpSymbol n) t ≡ same_kind (OpSymbol m) t
-      same (ConSymbol j) = refl
-      same (OpSymbol j) = refl
-
 pub based-kind : (h : List (Symbol Name)) (k : WordKind) (n m : Name) (x : List ℕ) → with_base h (symbol_of (k, n)) x
     ≡ with_base h (symbol_of (k, m)) x
 based-kind [] k n m x = refl
@@ -101,7 +84,6 @@ any-map p f [] = refl
 any-map p f (x ∷ xs) = ap (λ b. p (f x) || b) (any-map p f xs)
 
 -- ---- over the code's list, from the front
-
 pub name-of : (k : WordKind) (n : Name) → symbol_name (symbol_of (k, n)) ≡ n
 name-of kinds.Con n = refl
 name-of kinds.TyOp n = refl

@@ -1,46 +1,25 @@
 -- What the code makes of values that fit.
-use Rattle.std.specs.Prelude.{◌≡◌, ◌||◌, not, ℕ, Bool, true, false}
-use Rattle.std.specs.Prelude.{List, Option, Some, None, Result, Ok}
-use Rattle.std.proofs.Common.{refl, sym, ◌∙◌, ap, subst}
+use Rattle.std.specs.Prelude.{◌≡◌, ℕ, Bool, true, false}
+use Rattle.std.specs.Prelude.{List, Some, None, Result, Ok}
+use Rattle.std.proofs.Common.{sym, ◌∙◌, ap, subst}
 use Rattle.ot_logic.specs.Answers.{◌>>=◌, some_or}
 use Rattle.ot_logic.specs.Names.{Name}
 use Rattle.ot_logic.specs.Naming.{names}
 use Rattle.ot_logic.specs.Trees.{Ty, Tm, Con, App, Symbol}
-use Rattle.ot_logic.specs.Hol.{bool_ty, same_ty, type_in}
+use Rattle.ot_logic.specs.Hol.{bool_ty, type_in}
 use Rattle.ot_logic.specs.declared.memory.Memory.{Memory}
-use Rattle.ot_forms.specs.declared.fault.TextFault.TheVariants.{BadTypes, TooDeep, UnknownOperator}
-use Rattle.ot_forms.specs.Meaning.{Around, types_around, constant_of, has_type, is_typed}
-use Rattle.ot_forms.specs.Meaning.{fits, whole, relation_ty, equated, are_alike}
+use Rattle.ot_forms.specs.declared.fault.TextFault.TheVariants.{BadTypes, UnknownOperator}
+use Rattle.ot_forms.specs.Meaning.{Around, types_around, constant_of, is_typed}
+use Rattle.ot_forms.specs.Meaning.{whole, relation_ty, equated, are_alike}
 use Rattle.ot_parse.specs.declared.values.Value.{Value}
 use Rattle.ot_parse.specs.declared.values.Meant.{Meant as Part}
 use Rattle.ot_parse.specs.declared.values.Meant.TheVariants as parts
 use Rattle.ot_logic.specs.PlainTrees.{type_of_tree, term_of_tree}
 use Rattle.ot_parse.specs.Meant.{equal_of, infix_of, related_at}
-use Rattle.ot_parse.specs.Values.{IsValue, Means, IsWholly, IsMade, IsRelated}
-use Rattle.ot_parse.proofs.ValueLaws.{typed-test, too-deep}
+use Rattle.ot_parse.specs.Values.{IsValue, Means, IsMade, IsRelated}
 use Rattle.ot_parse.proofs.ValueLaws.{alike-typed, equated-is, equal-right, equal-wrong}
 
--- ---- whole parts
--- a proposition where one is wanted
-abbrev pub IsWanted : Around → Bool → Value → Type 0
-IsWanted l w v = (not w || has_type l (term_of_tree v.term) (bool_ty names)) ≡ true
-
-pub wanted : (l : Around) (v : Value) (w b : Bool) → IsValue l v
-    → b ≡ same_ty names (type_of_tree v.ty) (bool_ty names) → (w ≡ true → b ≡ true) → IsWanted l w v
-wanted l v true b h e d = typed-test l (term_of_tree v.term) (type_of_tree v.ty) (bool_ty names) h.typed ∙ sym e
-    ∙ d refl
-wanted l v false b h e d = refl
-
-pub deep : (l : Around) (k : ℕ) (v : Value) (w b : Bool) → IsWanted l w v → b ≡ fits l (term_of_tree v.term)
-    → b ≡ false → IsWholly l w k (Ok (term_of_tree v.term)) (parts.Wrong k TooDeep)
-deep l k v w b h e d = record { means = sym (too-deep l w k (term_of_tree v.term) h (sym e ∙ d)); kept = tt }
-
--- ---- applications
 -- ---- relations
-pub at-first : (l : Around) (c a : Tm Name) (n : Name) (t : Ty Name) (r : Result (Option Value) Memory) → c ≡ Con n t
-    → IsRelated l (App c a) r → IsRelated l (App (Con n t) a) r
-at-first l c a n t r e h = subst (λ g. IsRelated l (App g a) r) e h
-
 -- a term that fits
 pub relation-made : (l : Around) (t : Tm Name) (v : Value) → IsRelated l t (Ok (Some v))
     → Means l (Ok t) (parts.Value v)

@@ -2,6 +2,7 @@
 use Rattle.std.specs.Prelude.{◌≡◌, Bool, true, false, cond, [], ◌∷◌, ◌++◌, ◌&&◌, List, map}
 use Rattle.std.specs.List.{list_all, list_any}
 use Rattle.std.proofs.Common.{refl, sym, ◌∙◌, ap}
+use Rattle.std.proofs.lemmas.List.{map-append}
 use Rattle.ot_logic.specs.Names.{Name, same_name}
 use Rattle.ot_logic.specs.Trees.{Symbol}
 use Rattle.ot_forms.specs.Words.{namespace, same_kind, symbol_name, is_shown, is_short, is_hidden_in}
@@ -49,11 +50,6 @@ module _ (shown : List Name) (k : WordKind) (n : Name) where
     if-alone h g = (λ i. sym h i && (sym g i && alone)) ∙ sym parts
 
 -- ---- a symbol more
-map-push : (xs : List (WordKind × Name)) (x : WordKind × Name) → map symbol_of (xs ++ x ∷ []) ≡ map symbol_of xs
-    ++ symbol_of x ∷ []
-map-push [] x = refl
-map-push (y ∷ xs) x = ap (λ ys. symbol_of y ∷ ys) (map-push xs x)
-
 pub fails : (p : Symbol Name → Bool) (s : Symbol Name) (ss : List (Symbol Name)) → p s ≡ false
     → ss ≡ with_passing p s ss
 fails p s ss h = ap (λ e. cond e (ss ++ s ∷ []) ss) (sym h)
@@ -61,5 +57,6 @@ fails p s ss h = ap (λ e. cond e (ss ++ s ∷ []) ss) (sym h)
 pub passes : (p : Symbol Name → Bool) (s : WordKind × Name) (hs gs : List (WordKind × Name)) (v : WordKind × Name)
     → p (symbol_of s) ≡ true → v ≡ s → gs ≡ hs ++ v ∷ []
     → map symbol_of gs ≡ with_passing p (symbol_of s) (map symbol_of hs)
-passes p s hs gs v h e q = ap (map symbol_of) q ∙ map-push hs v ∙ ap (λ z. map symbol_of hs ++ symbol_of z ∷ []) e
+passes p s hs gs v h e q =
+    ap (map symbol_of) q ∙ map-append symbol_of hs (v ∷ []) ∙ ap (λ z. map symbol_of hs ++ symbol_of z ∷ []) e
     ∙ ap (λ z. cond z (map symbol_of hs ++ symbol_of s ∷ []) (map symbol_of hs)) (sym h)

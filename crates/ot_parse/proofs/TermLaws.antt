@@ -23,8 +23,8 @@ use Rattle.ot_forms.proofs.Terms.{more-step}
 use Rattle.ot_parse.specs.Meant.{Meaning, place_at, wholly, equal_of, infix_of, apply_of}
 use Rattle.ot_parse.specs.Meant.{abstracted, bound_of, applied_of, raw, is_relation, sides_of}
 use Rattle.ot_parse.specs.TermFrames.{First, Argument, Body, closed, reads, begun, operated}
-use Rattle.ot_parse.specs.TermFrames.{applied, behind, after, binder_at, binding_reading, named_reading, closed_term}
-use Rattle.ot_parse.specs.TermFrames.{closed_free_at, closed_variable_at, closed_constant_at, is_free_at}
+use Rattle.ot_parse.specs.TermFrames.{applied, behind, after, binder_at, named_reading, closed_term}
+use Rattle.ot_parse.specs.TermFrames.{closed_free_at, closed_constant_at, is_free_at}
 use Rattle.ot_parse.proofs.FrameLaws.{twice, mapped-same}
 use Rattle.ot_parse.proofs.Meanings.{whole-raw}
 use Rattle.ot_parse.proofs.Lengths.{got-value, got-rest, space-length, colon-length, point-length}
@@ -333,12 +333,6 @@ module _ (n : ℕ) (hidden : List (Symbol Name)) (nt : IsNotation hidden) (m : �
           (behind_term_at word type read (Place (first_part v)) (b ∷ u))) e
 
   -- ---- behind a parenthesis, by the first byte
-  pub inside-binding : (s : List ℕ) → closed_term hidden m (92 ∷ s) ≡ binding_reading hidden m s
-  inside-binding s = refl
-
-  pub inside-variable : (s : List ℕ) → closed_term hidden m (34 ∷ s) ≡ closed_variable_at hidden m (34 ∷ s)
-  inside-variable s = refl
-
   plain-of : (b : ℕ) (s : List ℕ) → (b == 92) ≡ false → (b == 34) ≡ false → inside_term_at word type read (b ∷ s)
       ≡ plain_inside_at word type read (b ∷ s)
   plain-of b s p q = λ i. cond (p i) (binding_at word type read (b ∷ s))
@@ -371,17 +365,3 @@ module _ (n : ℕ) (hidden : List (Symbol Name)) (l : Around) where
             (cond (q i) (Halted OneTooMany (123 ∷ s)) (mapped Place (part_at (b ∷ s))))
         by (suc m) = λ i. cond (p i) (closed_term hidden m s)
             (cond (q i) (closed_constant_at hidden m s) (mapped Place (part_at (b ∷ s))))
-
-  pub term-inside : (m : ℕ) (s : List ℕ) → begun n hidden (suc m) l (40 ∷ s)
-      ≡ mapped (raw hidden l (place_at n (40 ∷ s))) (closed_term hidden m s)
-  term-inside m s = refl
-
-  pub term-constant : (m : ℕ) (s : List ℕ) → begun n hidden (suc m) l (123 ∷ s)
-      ≡ mapped (raw hidden l (place_at n (123 ∷ s))) (closed_constant_at hidden m s)
-  term-constant m s = refl
-
-  pub term-full : (s : List ℕ) → begun n hidden zero l (40 ∷ s) ≡ Halted OneTooMany (40 ∷ s)
-  term-full s = refl
-
-  pub brace-full : (s : List ℕ) → begun n hidden zero l (123 ∷ s) ≡ Halted OneTooMany (123 ∷ s)
-  brace-full s = refl

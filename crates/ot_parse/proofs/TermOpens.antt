@@ -227,10 +227,6 @@ module _ (n : ℕ) (hidden : List (Symbol Name)) (l : Around) where
         }
 
 -- ---- leaves
-module _ (hidden : List (Symbol Name)) (l : Around) where
-  pub halted-leaf : (k : ℕ) (o : Reading Written) (h : Halt) → IsHalt h o → IsHalt h (mapped (raw hidden l k) o)
-  halted-leaf k o h e = halt-mapped h o (raw hidden l k) e
-
 -- a bound place
 pub bound-leaf : (l : Around) (k j : ℕ) (s x r : List ℕ) (y : Part) → j ≡ k → part_at s ≡ Got x r
     → Means l (bound_of l j x) y → IsMeant l y × (mapped (bound_of l k) (part_at s) ≡ Got (meant_of y) r)

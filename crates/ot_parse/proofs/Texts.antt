@@ -6,20 +6,15 @@ use Rattle.std.proofs.lemmas.Bool.Decides.{nat_tests}
 use Rattle.std.proofs.lemmas.List.{length-map}
 use Rattle.ot_logic.specs.Names.{Name, spelled, same_name, same_name-Decides}
 use Rattle.ot_logic.specs.Naming.{names}
-use Rattle.ot_logic.specs.Trees.{Ty, TyVar, TyOp, NoTys, MoreTys, Tm, App}
+use Rattle.ot_logic.specs.Trees.{Ty, TyOp, NoTys, MoreTys, Tm, App}
 use Rattle.ot_logic.specs.Hol.{same_ty, same_tys, fun_ty, bool_ty}
 use Rattle.ot_laws.proofs.Tests.{tells_names, same_ty-is}
 use Rattle.ot_logic.specs.declared.tree.Ty as types
-use Rattle.ot_logic.specs.declared.tree.Tm as terms
 use Rattle.ot_text.specs.Texts.{name_text, ty_text, spaced_text, tm_text, argument_text, is_function, is_equation}
 use Rattle.ot_text.specs.Pages.{Printed, IsPut}
 use Rattle.ot_text.proofs.Putting.{Puts, puts-more, same-text}
-use Rattle.ot_logic.specs.PlainTrees.{tys_of, type_of_tree, term_of_tree}
+use Rattle.ot_logic.specs.PlainTrees.{tys_of, type_of_tree}
 use Rattle.ot_parse.specs.Plain.{equality_test, front_text}
-
--- the text of a plain term
-abbrev pub text_of : terms.Tm → List ℕ
-text_of t = tm_text (term_of_tree t)
 
 -- a name has a component, and so its spelling is its text
 pub name-spelled : {X : Type 0} (f : X → List ℕ) (n : Name) (cs : List X) → map f cs ≡ n → 0 < length cs
@@ -148,17 +143,6 @@ tys-lengths f [] (y ∷ ys) h = refl
 tys-lengths f (x ∷ xs) [] h = refl
 tys-lengths f (x ∷ xs) (y ∷ ys) h = and-false (same_ty names (f x) (f y))
     ∙ ap (λ e. same_ty names (f x) (f y) && e) (tys-lengths f xs ys (λ e. h (ap (λ n. suc n) e)))
-
--- no function type
-pub no-function : (t : Ty Name) → is_function names t ≡ false → false ≡ equality_test t
-no-function (TyVar v) h = refl
-no-function (TyOp m NoTys) h = refl
-no-function (TyOp m (MoreTys a NoTys)) h = refl
-no-function (TyOp m (MoreTys a (MoreTys t NoTys))) h =
-    let e : same_name m names.arrow ≡ false = sym (arrow-pair m a t) ∙ h in
-    ap (λ z. z && same_tys names (MoreTys a (MoreTys t NoTys))
-    (MoreTys a (MoreTys (fun_ty names a (bool_ty names)) NoTys))) (sym e)
-no-function (TyOp m (MoreTys a (MoreTys t (MoreTys u us)))) h = refl
 
 itself : (t : Ty Name) → same_ty names t t ≡ true
 itself t = (same_ty-is names tells_names t t).1 refl

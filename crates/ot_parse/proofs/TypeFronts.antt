@@ -16,11 +16,11 @@ use Rattle.ot_parse.specs.declared.types.Back.{Back}
 use Rattle.ot_parse.specs.declared.types.Back.TheVariants as backs
 use Rattle.ot_parse.specs.Gives.{IsHalt}
 use Rattle.ot_logic.specs.PlainTrees.{type_of_tree}
-use Rattle.ot_parse.specs.Frames.{Frame, Range, Argument, frame_of, frames_of, closed}
+use Rattle.ot_parse.specs.Frames.{Frame, frame_of, frames_of, closed}
 use Rattle.ot_parse.specs.Frames.{word_first, after, resume, IsFrontOf, IsLeafOf, IsInside}
 use Rattle.ot_parse.specs.Frames.{IsInsideOf, IsBackOf, IsLeft, GoesOn, IsClosed, IsOn}
-use Rattle.ot_parse.proofs.Halts.{halt-same, halt-next}
-use Rattle.ot_parse.proofs.FrameLaws.{halts as halts-in, opens-word, behind-arrow, behind-operand}
+use Rattle.ot_parse.proofs.Halts.{halt-same}
+use Rattle.ot_parse.proofs.FrameLaws.{halts as halts-in, opens-word}
 
 pub not-equal : (a b : ℕ) → (a ≡ b → ⊥) → (a == b) ≡ false
 not-equal a b h = go (a == b) refl where
@@ -55,11 +55,6 @@ module _ (hidden : List (Symbol Name)) where
       ≡ Halted NoForm s
   nothing-inside m [] h = refl
   nothing-inside m (b ∷ s) h = absurd (omega (arith, h))
-
-  pub nothing-behind : (m : ℕ) (n : Name) (s : List ℕ) → length s ≡ 0
-      → closed (behind_word_at hidden (type_at hidden m) n s) ≡ Halted NoForm s
-  nothing-behind m n [] h = refl
-  nothing-behind m n (b ∷ s) h = absurd (omega (arith, h))
 
   leaf : (m : ℕ) (s : List ℕ) (o : Reading (Ty Name)) (r : Result Front Halt) → type_at hidden m s ≡ o → IsLeafOf o r
       → IsFrontOf hidden m s r
@@ -105,32 +100,6 @@ module _ (hidden : List (Symbol Name)) where
   word-inside m b s (Err k) e h = halt-same k (closed (word_first hidden (type_at hidden m) (b ∷ s)))
       (closed_type_at hidden (type_at hidden m) (b ∷ s)) (opens-word hidden (type_at hidden m) b s e) h
 
-  -- an arrow behind a word and a space
-  pub no-arrow-behind : (m : ℕ) (n : Name) (b : ℕ) (s : List ℕ) (h : Halt) → b ≡ 45
-      → IsHalt h (literal_at (codes "-> ") (b ∷ s))
-      → IsHalt h (closed (behind_word_at hidden (type_at hidden m) n (b ∷ s)))
-  no-arrow-behind m n b s h e d = subst (λ c. IsHalt h (closed (behind_word_at hidden (type_at hidden m) n (c ∷ s))))
-      (sym e)
-      (halt-next h (behind_word_at hidden (type_at hidden m) n (45 ∷ s)) _
-      (halt-next h (literal_at (codes "-> ") (45 ∷ s)) _
-      (subst (λ c. IsHalt h (literal_at (codes "-> ") (c ∷ s))) e d)))
-
-  pub arrow-behind : (m : ℕ) (n : Name) (t : Ty Name) (b : ℕ) (s q : List ℕ) → b ≡ 45
-      → literal_at (codes "-> ") (b ∷ s) ≡ Got tt q → t ≡ TyOp n NoTys
-      → closed (behind_word_at hidden (type_at hidden m) n (b ∷ s))
-      ≡ next (type_at hidden m q) (after hidden (type_at hidden m) (Range t))
-  arrow-behind m n t b s q e d k =
-      ap (λ c. closed (behind_word_at hidden (type_at hidden m) n (c ∷ s))) e
-      ∙ behind-arrow hidden (type_at hidden m) n s q (ap (λ c. literal_at (codes "-> ") (c ∷ s)) (sym e) ∙ d)
-      ∙ ap (λ u. next (type_at hidden m q) (after hidden (type_at hidden m) (Range u))) (sym k)
-
-  -- an argument behind them
-  pub operand-behind : (m : ℕ) (n : Name) (ts : List (Ty Name)) (b : ℕ) (s : List ℕ) → (b ≡ 45 → ⊥) → ts ≡ []
-      → closed (behind_word_at hidden (type_at hidden m) n (b ∷ s)) ≡ next (type_at hidden m (b ∷ s))
-      (after hidden (type_at hidden m) (Argument n ts))
-  operand-behind m n ts b s h e = behind-operand hidden (type_at hidden m) n b s (not-equal b 45 h)
-      ∙ ap (λ us. next (type_at hidden m (b ∷ s)) (after hidden (type_at hidden m) (Argument n us))) (sym e)
-
   -- behind a word and a space
   pub behind-inside : (m : ℕ) (s : List ℕ) (n : Name) (end rest : List ℕ) (r : Result Front Halt)
       → operator_at hidden s ≡ Got n end → literal_at (codes " ") end ≡ Got tt rest
@@ -150,30 +119,7 @@ module _ (hidden : List (Symbol Name)) where
     go (Err k) h = halt-same k (closed (behind_word_at hidden (type_at hidden m) n rest))
         (closed (word_first hidden (type_at hidden m) s)) same h
 
-  pub no-word : (m : ℕ) (s : List ℕ) (h : Halt) → IsHalt h (operator_at hidden s)
-      → IsHalt h (closed (word_first hidden (type_at hidden m) s))
-  no-word m s h e = halt-next h (word_first hidden (type_at hidden m) s) _ (halt-next h (operator_at hidden s) _ e)
-
-  pub no-word-space : (m : ℕ) (s : List ℕ) (n : Name) (end : List ℕ) (h : Halt) → operator_at hidden s ≡ Got n end
-      → IsHalt h (literal_at (codes " ") end) → IsHalt h (closed (word_first hidden (type_at hidden m) s))
-  no-word-space m s n end h d e =
-      halt-same h (closed (next (literal_at (codes " ") end) (λ _ q. behind_word_at hidden (type_at hidden m) n q)))
-      (closed (word_first hidden (type_at hidden m) s))
-      (ap closed
-      (ap (λ o. next o
-      (λ n r. next (literal_at (codes " ") r) (λ _ q. behind_word_at hidden (type_at hidden m) n q))) d))
-      (halt-next h (next (literal_at (codes " ") end) (λ _ q. behind_word_at hidden (type_at hidden m) n q)) _
-      (halt-next h (literal_at (codes " ") end) _ e))
-
   -- ---- what is closed
-  pub left-start : (fs : List Frame) (o : Reading (Ty Name)) → IsLeft hidden fs fs o o
-  left-start fs o = record {
-    popped = 0;
-    left = omega arith;
-    same = λ m. let k : m ≡ 0 + m = omega arith in
-        ap (λ j. resume hidden j fs o) k;
-  }
-
   pub left-step : (fs gs : List Frame) (o : Reading (Ty Name)) (g : Frame) (t u : Ty Name) (s r : List ℕ)
       → IsLeft hidden fs (g ∷ gs) o (Got t s)
       → ((m : ℕ) → after hidden (type_at hidden m) g t s ≡ Got u r) → IsLeft hidden fs gs o (Got u r)
@@ -204,10 +150,6 @@ module _ (hidden : List (Symbol Name)) where
       (e (h.popped + m)) ∙ halts-in hidden (suc (h.popped + m)) gs OneTooMany r.now
   left-halt fs gs o g t s halts.Memory h e m = tt
 
-  pub left-whole : (fs : List Frame) (o : Reading (Ty Name)) (t : Ty Name) (s : List ℕ)
-      → IsLeft hidden fs [] o (Got t s) → (m : ℕ) → resume hidden m fs o ≡ Got t s
-  left-whole fs o t s h m = h.same m
-
   pub frames-push : (fs : List Open) (f : Open) → frames_of (fs ++ f ∷ []) ≡ frame_of f ∷ frames_of fs
   frames-push [] f = refl
   frames-push (g ∷ fs) f = ap (λ z. z ++ frame_of g ∷ []) (frames-push fs f)
@@ -218,13 +160,6 @@ module _ (hidden : List (Symbol Name)) where
   popped-left fs xs ys g o p e h = subst (λ gs. IsLeft hidden fs gs o p) (ap frames_of e ∙ frames-push ys g) h
 
   -- ---- the loop
-  pub on-start : (room : ℕ) (text : List ℕ) → IsOn hidden room text [] text
-  on-start room text =
-      record {
-        within = omega arith;
-        same = (let k : room - 0 ≡ room = omega arith in ap (λ j. type_at hidden j text) k);
-      }
-
   count : (fs : List Open) → length (frames_of fs) ≡ length fs
   count [] = refl
   count (f ∷ fs) = let e = count fs in let a : length (frames_of fs ++ frame_of f ∷ []) ≡ length (frames_of fs) + 1 =
@@ -301,11 +236,6 @@ module _ (hidden : List (Symbol Name)) where
       → ((m : ℕ) → IsBackOf hidden m (frame_of g) t s (Err k)) → (m : ℕ) → IsHalt k (resume hidden m fs o)
   closing-halts fs o xs ys g t s k e h b =
       left-halt fs (frames_of ys) o (frame_of g) t s k (popped-left fs xs ys g o (Got t s) e h) b
-
-  pub closing-end : (fs : List Frame) (o : Reading (Ty Name)) (xs : List Open) (t : Ty Name) (s : List ℕ)
-      → length xs ≡ 0 → IsLeft hidden fs (frames_of xs) o (Got t s) → (m : ℕ) → resume hidden m fs o ≡ Got t s
-  closing-end fs o [] t s e h = left-whole fs o t s h
-  closing-end fs o (x ∷ xs) t s e h = absurd (omega (arith, e))
 
   -- ---- what comes of a front, and of a type that has ended
   abbrev pub FrontGoes : ℕ → List ℕ → List Open → List ℕ → Result Front Halt → Type 0

@@ -1,42 +1,31 @@
 -- What values keep of their terms.
-use Rattle.std.specs.Prelude.{◌≡◌, ℕ, suc, ◌+◌, ◌≤◌, ◌<◌, ◌&&◌, ◌||◌, not, max, min}
-use Rattle.std.specs.Prelude.{◌==◌, Bool, true, false, cond, nat_le, List, [], ◌∷◌, ◌++◌}
+use Rattle.std.specs.Prelude.{◌≡◌, ℕ, suc, ◌+◌, ◌≤◌, ◌<◌, ◌&&◌, max, min}
+use Rattle.std.specs.Prelude.{◌==◌, Bool, true, false, cond, List, [], ◌∷◌, ◌++◌}
 use Rattle.std.specs.Prelude.{map, length, take, Some, None, Ok, Err}
 use Rattle.std.specs.Option.{unwrap_or}
 use Rattle.std.proofs.Common.{refl, sym, ◌∙◌, ap, arith, get_or}
 use Rattle.std.proofs.Math.Seq.{take-suc}
 use Rattle.std.proofs.lemmas.Bool.Decides.{nat_tests}
-use Rattle.std.proofs.lemmas.List.{take_all}
+use Rattle.std.proofs.lemmas.List.{map-append, take_all}
 use Rattle.ot_logic.specs.Answers.{◌>>=◌}
 use Rattle.ot_logic.specs.Names.{Name}
 use Rattle.ot_logic.specs.Naming.{names}
 use Rattle.ot_logic.specs.Trees.{Ty, TyOp, Tm}
-use Rattle.ot_logic.specs.Trees.{Con, App, Symbol, ConSymbol, OpSymbol}
-use Rattle.ot_logic.specs.Hol.{fun_ty, bool_ty, same_ty, type_in, applied, result_ty, depth_tm, depth_ty}
-use Rattle.ot_logic.specs.Hol.{depth_all, depth_limit, has_shallow_types, is_shallow_ty, is_shallow_type}
+use Rattle.ot_logic.specs.Trees.{Con, Symbol, ConSymbol, OpSymbol}
+use Rattle.ot_logic.specs.Hol.{fun_ty, bool_ty, same_ty, type_in, applied, result_ty, depth_ty}
+use Rattle.ot_logic.specs.Hol.{depth_all}
 use Rattle.ot_logic.specs.declared.tree.Ty as types
 use Rattle.ot_logic.specs.declared.tree.Tm as terms
 use Rattle.ot_laws.proofs.Tests.{tells_names, same_ty-is}
 use Rattle.ot_laws.proofs.Typing.{result_ty-fun}
-use Rattle.ot_forms.specs.declared.fault.TextFault.TheVariants.{BadTypes, TooDeep}
+use Rattle.ot_forms.specs.declared.fault.TextFault.TheVariants.{BadTypes}
 use Rattle.ot_forms.specs.Words.{same_text, base}
 use Rattle.ot_forms.specs.Reading.{with_base}
 use Rattle.ot_forms.specs.Meaning.{Around, types_around, constant_of, has_type, is_typed}
-use Rattle.ot_forms.specs.Meaning.{fits, check, whole, equated, are_alike}
-use Rattle.ot_parse.specs.declared.values.Value.{Value}
+use Rattle.ot_forms.specs.Meaning.{check, equated, are_alike}
 use Rattle.ot_parse.specs.declared.values.Meant.TheVariants as parts
-use Rattle.ot_logic.specs.PlainTrees.{type_of_tree, term_of_tree, tys_of}
-use Rattle.ot_parse.specs.Meant.{equal_of, apply_of, relation_of, related_at}
-use Rattle.ot_parse.specs.Values.{IsValue, deeper}
-use Rattle.ot_parse.proofs.Components.{map-push}
-
--- ---- limits
-pub capped : (d : ℕ) → nat_le (min d (suc depth_limit)) depth_limit ≡ nat_le d depth_limit
-capped d = grind (arith, nat_tests)
-
-pub deeper-is : (a b : ℕ) → deeper (min a (suc depth_limit)) (min b (suc depth_limit))
-    ≡ min (suc (max a b)) (suc depth_limit)
-deeper-is a b = omega arith
+use Rattle.ot_logic.specs.PlainTrees.{type_of_tree, tys_of}
+use Rattle.ot_parse.specs.Meant.{equal_of, relation_of, related_at}
 
 -- ---- the depth of a row of types
 depth-push : (ts : List (Ty Name)) (t : Ty Name) → depth_all names (tys_of (ts ++ t ∷ []))
@@ -51,8 +40,8 @@ pub depth-more : (xs : List types.Ty) (i : ℕ) (x : types.Ty) (d e k : ℕ)
 depth-more xs i x d e k p h q r =
     let j : i + 1 ≡ suc i = omega arith in
     let w : map type_of_tree (take (i + 1) xs) ≡ map type_of_tree (take i xs) ++ type_of_tree x ∷ [] =
-    ap (λ n. map type_of_tree (take n xs)) j ∙ ap (map type_of_tree) (take-suc xs i x h) ∙ map-push type_of_tree
-    (take i xs) (get_or xs i x) ∙ ap (λ y. map type_of_tree (take i xs) ++ type_of_tree y ∷ []) (sym q) in
+    ap (λ n. map type_of_tree (take n xs)) j ∙ ap (map type_of_tree) (take-suc xs i x h) ∙ map-append type_of_tree
+    (take i xs) (get_or xs i x ∷ []) ∙ ap (λ y. map type_of_tree (take i xs) ++ type_of_tree y ∷ []) (sym q) in
     let u = ap (λ ts. depth_all names (tys_of ts)) w ∙ depth-push (map type_of_tree (take i xs)) (type_of_tree x) in
     omega (arith, p, r, u)
 
@@ -62,83 +51,10 @@ pub depth-whole : (n : Name) (xs : List types.Ty) (i d k : ℕ)
 depth-whole n xs i d k p h = let e = ap (λ ys. depth_all names (tys_of (map type_of_tree ys))) (take_all i xs h) in
     omega (arith, p, e)
 
--- ---- values
--- a type within the limit, by its depth as it is kept
-pub shallow-type : (t : Ty Name) (d : ℕ) → d ≡ min (depth_ty names t) (suc depth_limit)
-    → nat_le d depth_limit ≡ is_shallow_ty names t
-shallow-type t d e = ap (λ n. nat_le n depth_limit) e ∙ capped (depth_ty names t)
-
--- a value of this term
-pub made : (l : Around) (v : Value) (t : Tm Name) → term_of_tree v.term ≡ t → type_in names (types_around l) t
-    ≡ Some (type_of_tree v.ty) → v.depth ≡ min (depth_tm names t) (suc depth_limit)
-    → v.type_depth ≡ min (depth_ty names (type_of_tree v.ty)) (suc depth_limit)
-    → v.has_shallow_types ≡ has_shallow_types names (types_around l) t → IsValue l v
-made l v t e p q d r = record {
-  typed = ap (type_in names (types_around l)) e ∙ p;
-  depth = q ∙ ap (λ u. min (depth_tm names u) (suc depth_limit)) (sym e);
-  type_depth = d;
-  shallow = r ∙ ap (has_shallow_types names (types_around l)) (sym e);
-}
-
--- a value of one node without a type inside that isn't its own
-leaf : (l : Around) (v : Value) (t : Tm Name) (ty : Ty Name) → term_of_tree v.term ≡ t
-    → type_in names (types_around l) t ≡ Some ty → 1 ≡ depth_tm names t
-    → is_shallow_type names (type_in names (types_around l) t) ≡ has_shallow_types names (types_around l) t
-    → type_of_tree v.ty ≡ ty → v.depth ≡ 1 → v.type_depth ≡ min (depth_ty names ty) (suc depth_limit)
-    → v.has_shallow_types ≡ nat_le v.type_depth depth_limit → IsValue l v
-leaf l v t ty e p one own q d k r =
-    made l v t e (p ∙ ap Some (sym q)) (d ∙ ap (λ n. min n (suc depth_limit)) one)
-    (k ∙ ap (λ u. min (depth_ty names u) (suc depth_limit)) (sym q))
-    (r ∙ shallow-type ty v.type_depth k ∙ ap (is_shallow_type names) (sym p) ∙ own)
-
 -- ---- whole parts
 pub typed-test : (l : Around) (t : Tm Name) (ty u : Ty Name) → type_in names (types_around l) t ≡ Some ty
     → has_type l t u ≡ same_ty names ty u
 typed-test l t ty u e = ap (λ o. same_ty names (unwrap_or o (bool_ty names)) u) e
-
-pub not-wanted : (l : Around) (k : ℕ) (t : Tm Name) → has_type l t (bool_ty names) ≡ false
-    → whole l true k t ≡ Err (k, BadTypes)
-not-wanted l k t e = ap (λ b. check k BadTypes (not true || b) >>= (λ _. check k TooDeep (fits l t) >>= (λ _. Ok t)))
-    e
-
-pub too-deep : (l : Around) (w : Bool) (k : ℕ) (t : Tm Name) → (not w || has_type l t (bool_ty names)) ≡ true
-    → fits l t ≡ false → whole l w k t ≡ Err (k, TooDeep)
-too-deep l w k t e d = ap (λ b. check k BadTypes b >>= (λ _. check k TooDeep (fits l t) >>= (λ _. Ok t))) e
-    ∙ ap (λ b. check k TooDeep b >>= (λ _. Ok t)) d
-
-pub is-whole : (l : Around) (w : Bool) (k : ℕ) (t : Tm Name) → (not w || has_type l t (bool_ty names)) ≡ true
-    → fits l t ≡ true → whole l w k t ≡ Ok t
-is-whole l w k t e d = ap (λ b. check k BadTypes b >>= (λ _. check k TooDeep (fits l t) >>= (λ _. Ok t))) e
-    ∙ ap (λ b. check k TooDeep b >>= (λ _. Ok t)) d
-
--- ---- applications
-pub application-type : (l : Around) (f x : Tm Name) (a b : Ty Name) → type_in names (types_around l) f ≡ Some a
-    → type_in names (types_around l) x ≡ Some b → type_in names (types_around l) (App f x) ≡ result_ty names a b
-application-type l f x a b p q = λ i. applied names (p i) (q i)
-
-typed-some : (l : Around) (t : Tm Name) (ty : Ty Name) → type_in names (types_around l) t ≡ Some ty
-    → is_typed l t ≡ true
-typed-some l t ty e = ap (λ o. elim o as (λ _. Bool) [ None ↦ false | Some u ↦ true ]) e
-
-typed-none : (l : Around) (t : Tm Name) → type_in names (types_around l) t ≡ None → is_typed l t ≡ false
-typed-none l t e = ap (λ o. elim o as (λ _. Bool) [ None ↦ false | Some u ↦ true ]) e
-
-pub applied-right : (l : Around) (k : ℕ) (g y : Tm Name) (ty : Ty Name) → type_in names (types_around l) (App g y)
-    ≡ Some ty → apply_of l k (Ok g) (Ok y) ≡ Ok (App g y)
-applied-right l k g y ty e = ap (λ b. check k BadTypes b >>= (λ _. Ok (App g y))) (typed-some l (App g y) ty e)
-
-pub applied-wrong : (l : Around) (k : ℕ) (g y : Tm Name) → is_typed l (App g y) ≡ false → apply_of l k (Ok g) (Ok y)
-    ≡ Err (k, BadTypes)
-applied-wrong l k g y e = ap (λ b. check k BadTypes b >>= (λ _. Ok (App g y))) e
-
--- ---- abstractions
-twice-max : (d : ℕ) → min (suc (max d d)) (suc depth_limit) ≡ min (suc d) (suc depth_limit)
-twice-max d = omega arith
-
-function-depth : (t b : Ty Name) → min (suc (max (depth_ty names t) (depth_ty names b))) (suc depth_limit)
-    ≡ min (depth_ty names (fun_ty names t b)) (suc depth_limit)
-function-depth t b = let k : max (depth_ty names b) 0 ≡ depth_ty names b = omega arith in
-    ap (λ n. min (suc (max (depth_ty names t) n)) (suc depth_limit)) (sym k)
 
 -- ---- equations and operators
 same-turned : (a b : Ty Name) → same_ty names a b ≡ same_ty names b a

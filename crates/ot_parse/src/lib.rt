@@ -2,7 +2,6 @@
 #![tactic(auto)]
 
 mod bases;
-mod gather;
 mod halt;
 mod names;
 mod notation;
@@ -19,7 +18,7 @@ mod types;
 mod values;
 mod words;
 
-pub use names::{base_of, copy_name, is_bare};
+pub use names::{base_of, is_bare};
 pub use notation::{Notation, WordKind};
 pub use ot_forms::TextFault;
 pub use ot_text::PrintFault as PlainFault;

@@ -1,24 +1,11 @@
 //! Names by their components.
-ghost use Rattle.std.specs.Prelude.{◌≡◌, map, IfOk};
+ghost use Rattle.std.specs.Prelude.{◌≡◌, map};
 ghost use Rattle.std.specs.List.{list_all};
 ghost use Rattle.ot_logic.specs.Names.{same_name};
 ghost use Rattle.ot_forms.specs.Words.{base, namespace, is_part as part_test, is_bare as bare_test};
 
 use crate::words::is_part;
 use ot_logic::Name;
-use std::alloc::{AllocError, Global};
-
-/// A name equal to this one. It fails only where memory runs out.
-pub fn copy_name(alloc: Global, name: &Name) -> Result<Name, AllocError>
-    ensures { IfOk result (λ copy. copy ≡ name.now) }
-{
-    let mut components = Vec::new(alloc);
-    let parts = name.components();
-    for component in parts {
-        components.push(Vec::from_slice(alloc, component.as_slice())?)?;
-    }
-    Ok(Name::from_components(components))
-}
 
 /// The base name: the last component, without quotes.
 pub fn base_of(name: &Name) -> &[u8]

@@ -13,7 +13,7 @@ ghost use Rattle.ot_parse.specs.Symbols.{symbol_of, kind_test, with_passing, Are
 ghost use Rattle.ot_parse.specs.Symbols.{has_base as has_base_test, operator_base};
 
 use crate::bases::Bases;
-use crate::names::{are_same, base_of, copy_name, is_bare, namespace_of};
+use crate::names::{are_same, base_of, is_bare, namespace_of};
 use crate::words::{is_operator, is_part, is_same};
 use ot_logic::{Memory, Name};
 use std::alloc::{AllocError, Global};
@@ -133,7 +133,7 @@ impl Notation {
     {
         match name.components() {
             [only] => match self.with_base(kind, only.as_slice()) {
-                Some(hidden) => copy_name(alloc, hidden),
+                Some(hidden) => hidden.copy(alloc),
                 None => Ok(name),
             },
             _ => Ok(name),
@@ -158,6 +158,7 @@ impl Notation {
     pub fn sound(&self)
         ensures { IsNotation self.now }
     {
+        // What holds of each notation.
         let _hidden = &self.hidden;
     }
 }
@@ -242,7 +243,7 @@ fn push_hidden(
 fn copy_symbol(alloc: Global, symbol: &(WordKind, Name)) -> Result<(WordKind, Name), AllocError>
     ensures { IfOk result (λ copy. copy ≡ symbol.now) }
 {
-    let name = copy_name(alloc, &symbol.1)?;
+    let name = symbol.1.copy(alloc)?;
     Ok((symbol.0, name))
 }
 

@@ -4,23 +4,23 @@ ghost use Rattle.ot_logic.specs.Naming.{names};
 ghost use Rattle.ot_logic.specs.Names.{Name as NameValue};
 ghost use Rattle.ot_logic.specs.Trees.{TyOp, App, Tm as TermTree};
 ghost use Rattle.ot_text.specs.Texts.{name_text, ty_text, spaced_text, tm_text};
-ghost use Rattle.ot_text.specs.Texts.{argument_text, hyps_text, sequent_text, is_equation};
-ghost use Rattle.ot_text.specs.Gathered.{texts_of};
+ghost use Rattle.ot_text.specs.Texts.{argument_text, sequent_text, is_equation};
 ghost use Rattle.ot_text.specs.Pages.{IsPut, printed, Appended};
 ghost use Rattle.ot_logic.specs.PlainTrees.{type_of_tree, tys_of, term_of_tree};
 ghost use Rattle.ot_parse.specs.Plain.{sequent_of, equality_test, front_text};
 
-use crate::gather::gathered;
 use crate::readable::Readable;
 use crate::trees::{function_parts, is_arrow, is_bool, is_text, same_type};
 use ot_logic::{Name, Tm, Ty};
-use ot_text::{Page, PrintFault, put_hyps};
+use ot_text::{Page, PrintFault, Printable, append, put_hypotheses};
 use std::alloc::Global;
-use std::collections::BTreeSet;
+
+/// The table under which trees are printed: they need none.
+#[derive(Clone, Copy)]
+struct NoTable;
 
 /// Appends the printed text of a sequent that was read. `TooLarge` exactly where it has more than `max` bytes. After
-/// a refusal
-/// `out` is as it was.
+/// a refusal `out` is as it was.
 pub fn plain_text(
     alloc: Global,
     sequent: &Readable,
@@ -31,51 +31,35 @@ pub fn plain_text(
     ensures too_large { result ≡ Err PrintFault.TooLarge → max < length (sequent_text (sequent_of sequent.now)) }
     ensures err { OnErr result (out.new.items ≡ out.old.items) }
 {
-    let texts = gathered(alloc, sequent.hyps.as_slice(), max)?;
-    write_sequent(alloc, &texts, &sequent.concl, max, out)
+    append(alloc, &NoTable, sequent, max, out)
 }
 
-/// Appends the text of a sequent, of whose hypotheses these are the texts.
-fn write_sequent(
-    alloc: Global,
-    texts: &BTreeSet<Vec<u8>>,
-    concl: &Tm,
-    max: usize,
-    out: &mut Vec<u8>,
-) -> Result<(), PrintFault>
-    ensures ok { OnOk result (Appended (hyps_text (texts_of texts.now) ++ tm_text (term_of_tree concl.now)) max
-        out.old.items out.new.items) }
-    ensures too_large { result ≡ Err PrintFault.TooLarge → max
-        < length (hyps_text (texts_of texts.now) ++ tm_text (term_of_tree concl.now)) }
-    ensures err { OnErr result (out.new.items ≡ out.old.items) }
-{
-    let mut page = Page::new(alloc, max);
-    put_sequent(&mut page, texts, concl);
-    page.finish(out)
+impl Printable<NoTable> for Readable {
+    ghost is_inside = { λ _ _. Unit {0} };
+
+    ghost text = { λ _ sequent. sequent_text (sequent_of sequent) };
+
+    fn put(&self, page: &mut Page, alloc: Global, _table: &NoTable) {
+        put_sequent(page, alloc, self);
+    }
 }
 
-/// A sequent, of whose hypotheses these are the texts.
-fn put_sequent(page: &mut Page, texts: &BTreeSet<Vec<u8>>, concl: &Tm)
-    ensures { IsPut (hyps_text (texts_of texts.now) ++ tm_text (term_of_tree concl.now)) (printed page.old)
-        (printed page.new) }
-{
-    put_hyps(page, texts);
-    put_term(page, concl);
+impl Printable<NoTable> for Tm {
+    ghost is_inside = { λ _ _. Unit {0} };
+
+    ghost text = { λ _ term. tm_text (term_of_tree term) };
+
+    fn put(&self, page: &mut Page, _alloc: Global, _table: &NoTable) {
+        put_term(page, self);
+    }
 }
 
-/// Appends the text of a term. `TooLarge` exactly where it has more than `max` bytes.
-pub(crate) fn append(
-    alloc: Global,
-    term: &Tm,
-    max: usize,
-    out: &mut Vec<u8>,
-) -> Result<(), PrintFault>
-    ensures ok { OnOk result (Appended (tm_text (term_of_tree term.now)) max out.old.items out.new.items) }
-    ensures too_large { result ≡ Err PrintFault.TooLarge → max < length (tm_text (term_of_tree term.now)) }
+/// A sequent. The texts of the hypotheses together cost no more than the limit.
+fn put_sequent(page: &mut Page, alloc: Global, sequent: &Readable)
+    ensures { IsPut (sequent_text (sequent_of sequent.now)) (printed page.old) (printed page.new) }
 {
-    let mut page = Page::new(alloc, max);
-    put_term(&mut page, term);
-    page.finish(out)
+    put_hypotheses(page, alloc, &NoTable, sequent.hyps.as_slice());
+    put_term(page, &sequent.concl);
 }
 
 /// A term.

@@ -8,7 +8,6 @@ ghost use Rattle.ot_parse.specs.Gives.{Gives};
 ghost use Rattle.ot_parse.specs.Symbols.{symbol_of, behind_byte};
 
 use crate::halt::Halt;
-use crate::names::copy_name;
 use crate::notation::{Notation, WordKind};
 use crate::spelling::{bare, literal, spelled};
 use crate::words::is_sign;
@@ -157,7 +156,7 @@ fn ended_word<'a>(
 {
     for candidate in candidates {
         if candidate.0.is_empty() {
-            return Ok((copy_name(alloc, candidate.1)?, text));
+            return Ok((candidate.1.copy(alloc)?, text));
         }
     }
     Err(Halt::Syntax(text))

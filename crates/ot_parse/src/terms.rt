@@ -667,6 +667,7 @@ fn back_of_body<'a>(
         → IsMeant ((name.now, type_of_tree ty) ∷ l) part → length text.now ≤ n
         → IsBack n h m l (after n h m l (Body place name.now (type_of_tree ty)) (meant_of part) text.now) result }
 {
+    // The contract alone asks for the name.
     let _ = name;
     let rest = literal(text, b")")?;
     let body = whole(false, place, part);

@@ -202,6 +202,7 @@ fn behind_word<'a>(
     ensures { (m : ℕ) → IsInsideOf (closed (behind_word_at notation.now (type_at notation.now m) name text.now))
         notation.now m result }
 {
+    // The contract alone asks for the notation.
     let _ = notation;
     match text.split_first() {
         None => Err(Halt::Syntax(text)),
@@ -290,6 +291,7 @@ fn back_of_range<'a>(
 ) -> Result<Back<'a>, Halt<'a>>
     ensures { (m : ℕ) → IsBackOf notation.now m (Range (type_of_tree domain)) (type_of_tree ty) text.now result }
 {
+    // The contract alone asks for the notation.
     let _ = notation;
     let rest = literal(text, b")")?;
     let whole = function_type(alloc, domain, ty)?;
@@ -351,6 +353,7 @@ fn end_arguments<'a>(
         ++ t ∷ [] → further_at notation.now (type_at notation.now m) 0 text.now ≡ Got NoTys text.now
         → IsBackOf notation.now m (Argument name ts) t text.now result }
 {
+    // The contract alone asks for the notation.
     let _ = notation;
     if is_arrow(&name, &args) {
         return Err(Halt::Syntax(text));

@@ -13,7 +13,6 @@ ghost use Rattle.ot_parse.specs.Meant.{abstracted as abstracted_value, relation_
 ghost use Rattle.ot_parse.specs.Values.{IsValue, IsBoundTo, IsMeant, meant_of, deeper};
 ghost use Rattle.ot_parse.specs.Values.{IsWholly, IsApplied, IsMade, IsRelated};
 
-use crate::names::copy_name;
 use crate::notation::{Notation, WordKind};
 use crate::trees::{is_arrow, is_bool, same_type};
 use crate::types::function_type;
@@ -116,13 +115,13 @@ pub(crate) fn copy_type(alloc: Global, ty: &Ty) -> Result<Ty, AllocError>
     ensures { IfOk result (λ copy. type_of_tree copy ≡ type_of_tree ty.now) }
 {
     match ty {
-        Ty::Var(name) => Ok(Ty::Var(copy_name(alloc, name)?)),
+        Ty::Var(name) => Ok(Ty::Var(name.copy(alloc)?)),
         Ty::Op(name, args) => {
             let mut copies = Vec::new(alloc);
             for arg in args {
                 copies.push(copy_type(alloc, arg)?)?;
             }
-            Ok(Ty::Op(copy_name(alloc, name)?, copies))
+            Ok(Ty::Op(name.copy(alloc)?, copies))
         }
     }
 }
@@ -364,7 +363,7 @@ fn connective(alloc: Global, name: &Name) -> Result<Value, AllocError>
     ensures term { IfOk result (λ v. term_of_tree v.term ≡ ConTree name.now (relation_of (bool_ty names))) }
 {
     let ty = bool_type(alloc)?;
-    relation(alloc, copy_name(alloc, name)?, &ty)
+    relation(alloc, name.copy(alloc)?, &ty)
 }
 
 /// An abstraction over a variable of this type.

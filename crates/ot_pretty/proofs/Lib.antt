@@ -3,7 +3,6 @@ pub mod DottedWords
 pub mod TypePieces
 pub mod TermPieces
 pub mod Relations
-pub mod Gathered
 pub mod Roots
 pub mod Finding
 pub mod Propositions

@@ -71,23 +71,8 @@ pub not-range : (a b t c d e : Ty Name) → t ≡ fun_ty names a b → is_functi
     → false ≡ same_ty names t (fun_ty names c (fun_ty names d e))
 not-range a b t c d e p h = not-second a b t c (fun_ty names d e) p (no-function b d e h)
 
--- the tests of a constant, one after another
-pub not-hidden : (a b c : Bool) → a ≡ false → false ≡ (a && (b && c))
-not-hidden a b c h = ap (λ e. e && (b && c)) (sym h)
-
 -- ---- a term is a relation that is applied to one term
 module _ (hidden : List (Symbol Name)) (e : List (Variable Name)) where
-  leaf-none : (v : Variable Name) (o : Option ℕ) → is_relation hidden (at_place names v o) ≡ false
-  leaf-none v None = refl
-  leaf-none v (Some k) = refl
-
-  pub no-relation : (t : Named Name) → ((f x : Named Name) → t ≡ NApp f x → ⊥)
-      → is_relation hidden (nameless_in names e t) ≡ false
-  no-relation (NVar v) other = leaf-none v (place names e v)
-  no-relation (NConst n ty) other = refl
-  no-relation (NApp f x) other = absurd (other f x refl)
-  no-relation (NAbs v b) other = refl
-
   constant-leaf : (v : Variable Name) (o : Option ℕ) (x : Tm Name) → is_relation hidden (App (at_place names v o) x)
       ≡ false
   constant-leaf v None x = refl

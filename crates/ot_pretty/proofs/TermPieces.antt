@@ -1,13 +1,13 @@
 -- The readable texts of terms, piece by piece.
 use Rattle.std.specs.Prelude.{◌≡◌, ℕ, suc, Bool, true, false, cond, List}
-use Rattle.std.specs.Prelude.{◌∷◌, ◌++◌, is_some, codes, Option, Some, None}
+use Rattle.std.specs.Prelude.{◌∷◌, ◌++◌, is_some, codes}
 use Rattle.std.proofs.Common.{refl, sym, ◌∙◌, ap, append_assoc, append-nil}
 use Rattle.ot_logic.specs.Names.{Name}
 use Rattle.ot_logic.specs.Naming.{names}
 use Rattle.ot_logic.specs.Trees.{Ty, Tm, Free, Con, Bound, App, Abs, Variable}
-use Rattle.ot_logic.specs.Trees.{Named, NVar, NConst, NApp, NAbs, Symbol}
+use Rattle.ot_logic.specs.Trees.{Named, NConst, NApp, NAbs, Symbol}
 use Rattle.ot_logic.specs.Hol.{fun_ty, bool_ty}
-use Rattle.ot_logic.specs.NamedTerms.{nameless_in, at_place, place}
+use Rattle.ot_logic.specs.NamedTerms.{nameless_in}
 use Rattle.ot_laws.proofs.Tests.{tells_names}
 use Rattle.ot_laws.proofs.Equations.{as_equation-equation}
 use Rattle.ot_forms.specs.Words.{base}
@@ -155,13 +155,3 @@ module _ (hidden : List (Symbol Name)) where
     pub application-spine : (t f x : Named Name) → t ≡ NApp f x → spine_text hidden k (nameless_in names e f)
         ++ codes " " ++ under x ≡ spine_text hidden k (nameless_in names e t)
     application-spine t f x p = ap (λ u. spine_text hidden k (nameless_in names e u)) (sym p)
-
-    pub head-spine : (t : Named Name) → ((f x : Named Name) → t ≡ NApp f x → ⊥)
-        → under t ≡ spine_text hidden k (nameless_in names e t)
-    head-spine (NConst n ty) other = refl
-    head-spine (NApp f x) other = absurd (other f x refl)
-    head-spine (NAbs v b) other = refl
-    head-spine (NVar v) other = go (place names e v) where
-      go : (o : Option ℕ) → text_at hidden k (at_place names v o) ≡ spine_text hidden k (at_place names v o)
-      go None = refl
-      go (Some i) = refl

@@ -1,14 +1,13 @@
 //! The readable text of a theorem under a notation, and the symbols of a run.
 #![tactic(auto)]
 
-mod gather;
 mod laws;
 mod nodes;
-mod readable;
 mod search;
 mod sequents;
 mod summary;
 mod symbols;
+mod table;
 mod terms;
 mod types;
 mod words;

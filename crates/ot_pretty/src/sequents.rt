@@ -4,12 +4,11 @@ ghost use Rattle.ot_kernel.specs.State.{theorem_at};
 ghost use Rattle.ot_forms.specs.Printing.{readable_text as text_of};
 ghost use Rattle.ot_text.specs.Pages.{IsPut, printed, Appended};
 
-use crate::gather::gathered;
-use crate::readable::append;
+use crate::table::InNotation;
 use crate::terms::put_whole;
 use ot_kernel::{Kernel, ThmId};
 use ot_parse::Notation;
-use ot_text::{Page, PrintFault, put_hyps};
+use ot_text::{Page, PrintFault, append, put_hypotheses};
 use std::alloc::Global;
 
 /// Appends the readable text of a theorem's sequent under a notation. `TooLarge` exactly where it has more than `max`
@@ -28,7 +27,7 @@ pub fn readable_text(
     ensures too_large { result ≡ Err PrintFault.TooLarge → max < length (text_of notation.now (theorem_at kernel.now th)) }
     ensures err { OnErr result (out.new.items ≡ out.old.items) }
 {
-    append(alloc, kernel, notation, &th, max, out)
+    append(alloc, &InNotation { kernel, notation }, &th, max, out)
 }
 
 /// A theorem's sequent. The texts of the hypotheses together cost no more than the limit.
@@ -42,14 +41,11 @@ pub(crate) fn put_sequent(
     requires { th < length kernel.now.theorems }
     ensures { IsPut (text_of notation.now (theorem_at kernel.now th)) (printed page.old) (printed page.new) }
 {
-    if page.is_stopped() {
-        return;
-    }
-    match gathered(alloc, kernel, notation, kernel.hyps(th), page.room()) {
-        Ok(texts) => {
-            put_hyps(page, &texts);
-            put_whole(page, kernel, notation, kernel.concl(th));
-        }
-        Err(fault) => page.stop(fault),
-    }
+    put_hypotheses(
+        page,
+        alloc,
+        &InNotation { kernel, notation },
+        kernel.hyps(th),
+    );
+    put_whole(page, kernel, notation, kernel.concl(th));
 }

@@ -1,24 +1,18 @@
 //! The readable summary of a run.
-ghost use Rattle.std.specs.Prelude.{◌≡◌, ◌<◌, ◌++◌, codes, ◌∷◌, [], true, length, map, IfOk, OnOk, OnErr, Err};
+ghost use Rattle.std.specs.Prelude.{◌≡◌, ◌<◌, length, map, IfOk, OnOk, OnErr, Err};
 ghost use Rattle.std.specs.List.{All};
 ghost use Rattle.ot_kernel.specs.State.{theorem_at};
-ghost use Rattle.ot_text.specs.Texts.{number_text, ascending};
-ghost use Rattle.ot_text.specs.Sections.{section_text};
-ghost use Rattle.ot_text.specs.Gathered.{texts_of};
 ghost use Rattle.ot_text.specs.Pages.{IsPut, printed, Appended};
-ghost use Rattle.ot_forms.specs.Printing.{readable_text as text_of};
 ghost use Rattle.ot_pretty.specs.Summary.{ReadBack, hidden_at, summary_at, IsHiddenAt};
 
-use crate::gather::gathered;
 use crate::laws::each_reads_back;
-use crate::sequents::put_sequent;
 use crate::symbols::run_symbols;
+use crate::table::InNotation;
 use ot_kernel::{Kernel, ThmId};
 use ot_logic::{Memory, Name};
 use ot_parse::Notation;
-use ot_text::{Page, PrintFault};
+use ot_text::{Page, PrintFault, put_section, put_sorted_section};
 use std::alloc::Global;
-use std::collections::BTreeSet;
 
 /// Appends the readable summary of a run that exports these theorems, where these namespaces are shown: the
 /// assumptions, in the order of the bytes of their texts, and the theorems, in the order given. The notation is that
@@ -100,64 +94,14 @@ fn put_summary(
     requires { All (λ th. th < length kernel.now.theorems) theorems.now }
     ensures { IsPut (summary_at kernel.now notation.now theorems.now) (printed page.old) (printed page.new) }
 {
-    put_assumptions(page, alloc, kernel, notation);
-    put_theorems(page, alloc, kernel, notation, theorems);
-}
-
-/// The assumptions. Their texts together cost no more than the limit.
-fn put_assumptions(page: &mut Page, alloc: Global, kernel: &Kernel, notation: &Notation)
-    ensures { IsPut
-        (section_text true (codes "assumptions") (ascending (map (text_of notation.now) kernel.now.assumptions)))
-        (printed page.old) (printed page.new) }
-{
-    if page.is_stopped() {
-        return;
-    }
-    match gathered(alloc, kernel, notation, kernel.assumptions(), page.room()) {
-        Ok(texts) => put_texts(page, b"assumptions", &texts),
-        Err(fault) => page.stop(fault),
-    }
-}
-
-/// A section of texts.
-fn put_texts(page: &mut Page, title: &[u8], texts: &BTreeSet<Vec<u8>>)
-    ensures { IsPut (section_text true title.now (texts_of texts.now)) (printed page.old) (printed page.new) }
-{
-    put_title(page, title, texts.len());
-    for text in texts {
-        page.put(b"  ");
-        page.put(text.as_slice());
-        page.put(b"\n");
-    }
-}
-
-/// The theorems, in order.
-fn put_theorems(
-    page: &mut Page,
-    alloc: Global,
-    kernel: &Kernel,
-    notation: &Notation,
-    theorems: &[ThmId],
-)
-    requires { All (λ th. th < length kernel.now.theorems) theorems.now }
-    ensures { IsPut
-        (section_text true (codes "theorems") (map (text_of notation.now) (map (theorem_at kernel.now) theorems.now)))
-        (printed page.old) (printed page.new) }
-{
-    put_title(page, b"theorems", theorems.len());
-    for th in theorems {
-        page.put(b"  ");
-        put_sequent(page, alloc, kernel, notation, *th);
-        page.put(b"\n");
-    }
-}
-
-/// The first line of a section: its title, and how many items it has.
-fn put_title(page: &mut Page, title: &[u8], count: usize)
-    ensures { IsPut (title.now ++ codes ": " ++ number_text count ++ 10 ∷ []) (printed page.old) (printed page.new) }
-{
-    page.put(title);
-    page.put(b": ");
-    page.put_number(count);
-    page.put(b"\n");
+    let table = InNotation { kernel, notation };
+    put_sorted_section(
+        page,
+        alloc,
+        &table,
+        true,
+        b"assumptions",
+        kernel.assumptions(),
+    );
+    put_section(page, alloc, &table, true, b"theorems", theorems);
 }

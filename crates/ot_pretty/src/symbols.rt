@@ -13,7 +13,7 @@ ghost use Rattle.ot_pretty.specs.Run.{symbols_of_run, Adds, named_symbol, symbol
 use crate::search::found_symbols;
 use ot_kernel::{Definition, Kernel, ThmId};
 use ot_logic::{Memory, Name};
-use ot_parse::{WordKind, copy_name};
+use ot_parse::WordKind;
 use ot_term::{Symbol, SymbolKind, TermId};
 use std::alloc::{AllocError, Global};
 
@@ -135,7 +135,7 @@ fn with_name(alloc: Global, kernel: &Kernel, symbol: Symbol) -> Result<(WordKind
     requires { symbol.name < length kernel.now.names }
     ensures { IfOk result (λ named. symbol_of named ≡ named_symbol kernel.now symbol) }
 {
-    let name = copy_name(alloc, kernel.names().get(symbol.name))?;
+    let name = kernel.names().get(symbol.name).copy(alloc)?;
     Ok((kind_of(symbol.kind), name))
 }
 

@@ -38,7 +38,6 @@ use Rattle.ot_logic.proofs.Members.{IsMember-left}
 use Rattle.ot_logic.proofs.Results.{some_or-ok}
 
 -- ---- marks
-
 same_name : (a b : List ℕ) → bytes_eq a b ≡ true → a ≡ b
 same_name a b e = (bytes_decides a b).0 e
 
@@ -92,7 +91,6 @@ module _ (old new : List ℕ → Option Mark) (path done : List (List ℕ)) (k :
       at_other false p h = h
 
 -- ---- the measure
-
 length_le : (p r : List ℕ → Bool) → ((q : List ℕ) → r q ≡ true → p q ≡ true) → (xs : List (List ℕ))
     → length (filter r xs) ≤ length (filter p xs)
 length_le p r less [] = omega arith
@@ -144,7 +142,6 @@ module _ (old new : List ℕ → Option Mark) (k : List ℕ) (mark : Mark)
   count_marked listed = length_le (is_new old) (is_new new) new_less listed
 
 -- ---- what is met
-
 pub target_new : (marked : List ℕ → Option Mark) (back : Refusal) (t : Result (List ℕ) Refusal) (k : List ℕ)
     → next_at marked (record { target = t; back = back }) ≡ Ok (Some k) → (t ≡ Ok k) × (marked k ≡ None)
 target_new marked back (Err fault) k e = absurd cc
@@ -182,7 +179,6 @@ target_refused marked back (Ok j) fault e = by_mark (marked j) refl e where
   by_mark (Some Done) at e = absurd cc
 
 -- ---- the rest of the walk
-
 module _ (edges : List ℕ → Result (List (Edge (List ℕ) Refusal)) Refusal) (whole : Walk (List ℕ) Refusal)
     (marked : List ℕ → Option Mark) (ws : List Waiting) (file left : File) (done : List (List ℕ))
     (marks : IsMarked marked (path_of (levels_of ws)) done) where
@@ -261,11 +257,7 @@ module _ (edges : List ℕ → Result (List (Edge (List ℕ) Refusal)) Refusal) 
             (sym none) ∙ r.is;
       }
 
-  pub rests_last : Rests edges whole [] file done → walked whole ≡ Ok done
-  rests_last r = ap walked (sym r.is ∙ ap (λ es. rest_of bytes_eq edges r.bound [] es done) none)
-
 -- ---- what the code pops and pushes
-
 pub edges_popped : (file left : File) (r : Requirement) → file.path ≡ left.path → file.left.items ≡ left.left.items
     ++ r ∷ [] → edges_left file ≡ edge_at (string_bytes left.path) r ∷ edges_left left
 edges_popped file left r path items =
@@ -296,7 +288,6 @@ carried (faults.ReadFault path) r s more is = tt
 carried faults.Memory r s more is = tt
 
 -- ---- what holds of the code's state
-
 pub start_so_far : (listed : List (List ℕ)) (marked : List ℕ → Option Mark) (first : File)
     → ((q : List ℕ) → marked q ≡ None) → AreListed listed first.left.items → SoFar listed marked [] first []
 start_so_far listed marked first none are = record { marks = none; levels = λ w m. absurd m; left = are }
@@ -371,7 +362,6 @@ module _ (listed : List (List ℕ)) (old new : List ℕ → Option Mark) (ws : L
       omega (arith, fewer, more)
 
 -- ---- the bound is enough
-
 edge_listed : (listed : List (List ℕ)) (path : List ℕ) (rs : List Requirement) → AreListed listed rs
     → (e : Edge (List ℕ) Refusal) (k : List ℕ) → IsMember e (map (edge_at path) rs) → e.target ≡ Ok k
     → IsMember k listed

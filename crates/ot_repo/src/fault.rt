@@ -2,7 +2,7 @@ use ot_logic::Memory as NoMemory;
 use ot_theory::TheoryFault;
 use std::alloc::{AllocError, AllocFailed};
 
-/// Why the required packages aren't told. A path is that of the file at fault.
+/// Why the required packages aren't found. A path is that of the file at fault.
 #[derive(Drop)]
 pub enum RepoFault {
     /// The first fault of a theory file's grammar.

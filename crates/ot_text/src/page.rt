@@ -113,12 +113,17 @@ impl Page {
         ensures too_large { result ≡ Err PrintFault.TooLarge → printed self ≡ Full }
         ensures err { OnErr result (out.new.items ≡ out.old.items) }
     {
-        match self.fault {
-            Some(fault) => Err(fault),
-            None => match out.extend_from_slice(self.bytes.as_slice()) {
-                Ok(()) => Ok(()),
-                Err(_) => Err(PrintFault::Memory),
-            },
+        if let Some(fault) = self.fault {
+            return Err(fault);
+        }
+        // A long text isn't held twice where nothing stands before it.
+        if out.is_empty() {
+            *out = self.bytes;
+            return Ok(());
+        }
+        match out.extend_from_slice(self.bytes.as_slice()) {
+            Ok(()) => Ok(()),
+            Err(_) => Err(PrintFault::Memory),
         }
     }
 }

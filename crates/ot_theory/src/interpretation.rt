@@ -1,10 +1,13 @@
-ghost use Rattle.std.specs.Prelude.{◌≡◌, IfSome};
+ghost use Rattle.std.specs.Prelude.{◌≡◌, Some, IfOk, IfSome};
+ghost use Rattle.ot_logic.specs.Reading.{name_read};
 ghost use Rattle.ot_theory.specs.Interpretations.{split_interpret, parts_value, after_blanks};
 ghost use Rattle.ot_theory.specs.Interpretations.{after_word, kind_front, whole, IsQuotedName};
 ghost use Rattle.ot_theory.specs.Quoting.{front_value, kind_value};
 
 use crate::quoted::quoted_front;
 use ot_lines::trimmed_front;
+use ot_logic::{Memory, Name, NameFault};
+use std::alloc::Global;
 
 /// The kind of a symbol.
 #[derive(Clone, Copy, PartialEq, Eq)]
@@ -22,6 +25,19 @@ pub fn split_interpret(value: &[u8]) -> Option<(SymbolWord, &[u8], &[u8])>
     ensures names { IfSome result (λ p. IsQuotedName p.1.now × IsQuotedName p.2.now) }
 {
     split(value)
+}
+
+/// The name that a quoted text spells, as each of the two texts does that `split_interpret` gives. The text has its
+/// quotes and at most 65,535 bytes. It fails only where memory runs out.
+pub fn quoted_name(alloc: Global, quoted: &[u8]) -> Result<Name, Memory>
+    requires { IsQuotedName quoted.now }
+    ensures { IfOk result (λ name. name_read quoted.now ≡ Some name) }
+{
+    match Name::read(alloc, quoted) {
+        Ok(name) => Ok(name),
+        Err(NameFault::Memory) => Err(Memory),
+        Err(NameFault::Unterminated | NameFault::Trailing) => unreachable!(),
+    }
 }
 
 fn split(value: &[u8]) -> Option<(SymbolWord, &[u8], &[u8])>

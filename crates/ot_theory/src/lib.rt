@@ -15,7 +15,7 @@ mod theory;
 mod values;
 
 pub use fault::{TheoryError, TheoryFault};
-pub use interpretation::{SymbolWord, split_interpret};
+pub use interpretation::{SymbolWord, quoted_name, split_interpret};
 pub use keys::{Key, key_of};
 pub use laws::{one_interpretation, one_path, places};
 pub use lines::{Line, next_line};

@@ -1,11 +1,10 @@
-ghost use Rattle.std.specs.Prelude.{◌≡◌, ◌∷◌, ◌++◌, ◌||◌, [], List, Some, IfOk, OnOk};
+ghost use Rattle.std.specs.Prelude.{◌≡◌, ◌∷◌, ◌++◌, ◌||◌, [], List, IfOk, OnOk};
 ghost use Rattle.std.specs.List.{list_any};
 ghost use Rattle.ot_logic.specs.Answers.{unless};
-ghost use Rattle.ot_logic.specs.Reading.{name_read};
 ghost use Rattle.ot_theory.specs.Theory.{TagText, statement_added, statement_allowed};
 ghost use Rattle.ot_theory.specs.Theory.{source_allowed, value_allowed, has_source, is_symbol};
 ghost use Rattle.ot_theory.specs.Values.{key_of, is_source};
-ghost use Rattle.ot_theory.specs.Interpretations.{Symbol, symbol_of, IsQuotedName};
+ghost use Rattle.ot_theory.specs.Interpretations.{Symbol, symbol_of};
 ghost use Rattle.ot_theory.specs.Answers.{tag_of, tags_of, block_of};
 ghost use Rattle.ot_theory.specs.Reading.{HoldsSymbols, has_symbol, Gives, Allows};
 ghost use Rattle.ot_theory.specs.declared.fault.TheoryFault.TheVariants.{BadLine};
@@ -13,13 +12,12 @@ ghost use Rattle.ot_theory.specs.declared.keys.Key.TheVariants.{Interpret};
 
 use crate::fault::{Refusal, TheoryFault};
 use crate::forms::is_identifier;
-use crate::interpretation::split_interpret;
+use crate::interpretation::{quoted_name, split_interpret};
 use crate::keys::{Key, is_source, key_of};
 use crate::reading::OpenBlock;
 use crate::symbols::Symbols;
 use crate::theory::Tag;
 use crate::values::is_path;
-use ot_logic::{Memory, Name, NameFault};
 use std::alloc::Global;
 
 /// Adds a statement to the open block.
@@ -109,7 +107,7 @@ fn check_renaming(alloc: Global, symbols: &mut Symbols, value: &[u8]) -> Result<
 {
     match split_interpret(value) {
         Some((kind, from, _)) => {
-            let name = name_of(alloc, from)?;
+            let name = quoted_name(alloc, from)?;
             if symbols.add(kind, name)? {
                 Ok(())
             } else {
@@ -117,17 +115,5 @@ fn check_renaming(alloc: Global, symbols: &mut Symbols, value: &[u8]) -> Result<
             }
         }
         None => Err(Refusal::Fault(TheoryFault::BadInterpret)),
-    }
-}
-
-/// The name that a quoted text spells.
-fn name_of(alloc: Global, quoted: &[u8]) -> Result<Name, Memory>
-    requires { IsQuotedName quoted.now }
-    ensures { IfOk result (λ name. name_read quoted.now ≡ Some name) }
-{
-    match Name::read(alloc, quoted) {
-        Ok(name) => Ok(name),
-        Err(NameFault::Memory) => Err(Memory),
-        Err(NameFault::Unterminated | NameFault::Trailing) => unreachable!(),
     }
 }

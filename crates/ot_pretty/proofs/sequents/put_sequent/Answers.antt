@@ -1,27 +1,15 @@
-use Rattle.std.proofs.Common.{Err, ◌<◌, ◌++◌, sym, ap, ◌∙◌, subst}
+use Rattle.std.proofs.Common.{◌++◌}
 use Rattle.ot_kernel.specs.State.{term_at, theorem_at}
 use Rattle.ot_forms.specs.Printing.{readable_term}
 use Rattle.ot_text.specs.Texts.{ascending, hyps_text}
-use Rattle.ot_text.specs.Gathered.{bytes_in}
-use Rattle.ot_text.proofs.Putting.{then, same-text, gives-up}
+use Rattle.ot_text.proofs.Putting.{then, same-text}
 use Rattle.ot_text.proofs.Gathering.{texts-through}
-use Rattle.ot_pretty.proofs.Gathered.{sequent-bytes}
 use Rattle.ot_pretty.proofs.sequents.put_sequent.Goals as goal
 
-pub returns-in-Ok : goal.returns-in-Ok
-returns-in-Ok c =
+pub returns : goal.returns
+returns c =
     let hidden = c.args.notation.now in
-    let hyps = c.in-Ok.ensures.ok
-    ∙ ap ascending (texts-through (readable_term hidden) (term_at c.args.kernel.now) c.hyps.result.now
-    (theorem_at c.args.kernel.now c.args.th).hyps c.hyps.ensures.hyps) in
-    same-text (λ j. hyps_text (hyps j) ++ readable_term hidden (c.concl.ensures.concl j))
-    (then c.put_hyps.ensures c.put_whole.ensures)
-
-pub returns-in-Err : goal.returns-in-Err
-returns-in-Err c =
-    let hyps = texts-through (readable_term c.args.notation.now) (term_at c.args.kernel.now) c.hyps.result.now
+    let hyps = texts-through (readable_term hidden) (term_at c.args.kernel.now) c.hyps.result.now
     (theorem_at c.args.kernel.now c.args.th).hyps c.hyps.ensures.hyps in
-    gives-up _ _ _ c.room.result c.in-Err.fault c.stop.ensures (sym c.is_stopped.ensures ∙ c.if-is_stopped.false)
-    c.room.ensures
-    (λ p. sequent-bytes c.args.notation.now c.room.result (theorem_at c.args.kernel.now c.args.th)
-    (subst (λ ts. c.room.result < bytes_in (ascending ts)) hyps (c.in-Err.ensures.too_large (λ j. Err (p j)))))
+    same-text (λ j. hyps_text (ascending (hyps j)) ++ readable_term hidden (c.concl.ensures.concl j))
+    (then c.put_hypotheses.ensures c.put_whole.ensures)
