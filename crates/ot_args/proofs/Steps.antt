@@ -19,7 +19,6 @@ use Rattle.ot_args.specs.declared.verb.Verb.{Verb}
 use Rattle.ot_args.proofs.OptionLemmas.{set_all-nothing}
 
 -- ---- the front of the words
-
 -- what stands behind the first word
 abbrev behind : List (String Global) → List (String Global)
 behind words = take (length words - 1) (drop 1 words)
@@ -43,13 +42,7 @@ first_text words word text h e same =
     ∙ ap (λ (t : List ℕ). t ∷ texts_of (drop 1 words)) (sym same)
     ∙ ap (λ (ws : List (String Global)). text ∷ texts_of ws) (sym (behind_is words))
 
--- no words
-no_words : (words : List (String Global)) → length words ≤ 0 → texts_of words ≡ []
-no_words [] h = refl
-no_words (word ∷ words) h = absurd (omega arith)
-
 -- ---- arguments by their first word
-
 -- an option without a value
 pub flag_first : (name : List ℕ) (o : OptionValue) (words : List (List ℕ)) → bytes_eq name packages_name ≡ false
     → flag_named name ≡ Some o → arguments (name ∷ words) ≡ option_map (with_option o) (arguments words)
@@ -63,7 +56,6 @@ operand_first name [] other none = rw (other, none) refl
 operand_first name (next ∷ words) other none = rw (other, none) refl
 
 -- ---- an option before arguments
-
 -- the arguments behind an option, from what it sets
 abbrev read_on : Verb → Option Arguments → Option SettingsValue → Option GivenValue
 read_on v r w = option_and_then (λ t. option_and_then (given_after v t) r) w
@@ -89,7 +81,6 @@ option_before v s o w (Some a) h =
     ∙ option_set v a w
 
 -- ---- the words of a slice
-
 -- the option for the folder is first, and a folder behind it
 folder_step : (v : Verb) (s : SettingsValue) (name next : List ℕ) (words : List (List ℕ)) (w : Option SettingsValue)
     → bytes_eq name packages_name ≡ true → set_one v s (Packages next) ≡ w → read_after v s (name ∷ next ∷ words)
@@ -106,31 +97,17 @@ folder_loop v words name next text value s w h e same named h' e' same' set =
     ∙ ap (λ (ws : List (List ℕ)). read_after v s (text ∷ ws)) (first_text (behind words) next value h' e' same')
     ∙ folder_step v s text value (texts_of (behind (behind words))) w named (sym set)
 
--- and none behind it
-folder_alone : (v : Verb) (s : SettingsValue) (name : List ℕ) → bytes_eq name packages_name ≡ true
-    → read_after v s (name ∷ []) ≡ None
-folder_alone v s name e = rw e refl
-
-pub no_folder : (v : Verb) (words : List (String Global)) (name : String Global) (text : List ℕ) (s : SettingsValue)
-    → 1 ≤ length words → name ≡ get_or words 0 name → text ≡ string_bytes name → bytes_eq text packages_name ≡ true
-    → length (behind words) ≤ 0 → read_after v s (texts_of words) ≡ None
-no_folder v words name text s h e same named none =
-    ap (read_after v s) (first_text words name text h e same)
-    ∙ ap (λ (ws : List (List ℕ)). read_after v s (text ∷ ws)) (no_words (behind words) none)
-    ∙ folder_alone v s text named
-
 -- an answer that is refused
 pub refused : (r : Result Given Usage) → IsErr r → given_answer r ≡ None
 refused (Ok g) e = cc
 refused (Err e) h = refl
 
 -- ---- the command
-
 -- the command of what was given
 abbrev given_command : Verb → GivenValue → Option CommandValue
 given_command v g = command_with v g.settings g.operands
 
--- what the arguments come to, by whether the command takes the options
+-- what the arguments say, by whether the command takes the options
 command_from : (v : Verb) (a : Arguments) (b : Bool) → cond b (command_with v (settings_of a.options) a.operands) None
     ≡ option_and_then (given_command v)
     (option_map (with_operands a.operands) (cond b (Some (settings_of a.options)) None))

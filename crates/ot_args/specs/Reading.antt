@@ -68,7 +68,7 @@ with_operands operands s = record { settings = s; operands = operands }
 abbrev pub given_after : Verb → SettingsValue → Arguments → Option GivenValue
 given_after v s a = option_map (with_operands a.operands) (set_all v a.options s)
 
--- what words come to behind options that were read before
+-- what words say behind options that were read before
 abbrev pub read_after : Verb → SettingsValue → List (List ℕ) → Option GivenValue
 read_after v s words = option_and_then (given_after v s) (arguments words)
 

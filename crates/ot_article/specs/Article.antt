@@ -64,7 +64,7 @@ WrittenArticleLaw = (same : Origin Name → Origin Name → Bool) → Tells same
     → length (written_bytes same keep r.definitions es) ≤ max → max < 2 ^ 63
     → IsArticleOf same max r.definitions es (written_bytes same keep r.definitions es)
 
--- of the exports of an article that was run alone, up to any of its lines, whatever its source tells
+-- of the exports of an article that was run alone, up to any of its lines, whatever its source is
 abbrev pub MinimisedLaw : Type 0
 MinimisedLaw = (same : Origin Name → Origin Name → Bool) → Tells same
     → (s : State) (keep : Origin Name → Bool) (max : ℕ) → LeadsTo no_context fresh s

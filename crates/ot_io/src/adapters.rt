@@ -4,7 +4,8 @@ use crate::sink::Sink;
 use crate::source::{Failed, Source};
 use std::io::{Read, Write};
 
-/// Any reader of std as a source, with a count of its failures. It tells what the reader tells.
+/// Any reader of std as a source, with a count of its failures. Its bytes are known where the
+/// reader's are.
 #[derive(Drop)]
 pub struct StdSource<R> {
     inner: R,
@@ -43,8 +44,8 @@ impl<R: Read> Source for StdSource<R> {
     }
 }
 
-/// Any writer of std as a sink, with a count of its failures. It tells what the writer tells, and not
-/// how much is flushed.
+/// Any writer of std as a sink, with a count of its failures. What is written is known where it is of the writer; how much
+/// is flushed never is.
 #[derive(Drop)]
 pub struct StdSink<W> {
     inner: W,

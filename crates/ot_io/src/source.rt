@@ -10,7 +10,7 @@ pub struct Failed;
 
 /// A stream of bytes, perhaps those of a file.
 ///
-/// A source without files tells the folder without files, tells no path, and has missed none.
+/// A source without files knows the folder without files and no path, and has missed none.
 pub trait Source {
     /// The bytes that are left, where known.
     ghost left: { Self → Option (List ℕ) };

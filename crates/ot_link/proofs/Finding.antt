@@ -1,7 +1,7 @@
 -- The article or the package among statements, one after another.
 use Rattle.std.specs.Prelude.{Some}
 use Rattle.std.proofs.Common.{◌≡◌, ◌∙◌, ◌<◌, ◌+◌, ℕ, List, length, drop}
-use Rattle.std.proofs.Common.{get_or, false, if◌then◌else◌, sym, ap, add-one}
+use Rattle.std.proofs.Common.{get_or, if◌then◌else◌, sym, ap, add-one}
 use Rattle.std.proofs.Math.Seq.{drop-cons}
 use Rattle.ot_theory.specs.Values.{key_of, is_source}
 use Rattle.ot_theory.specs.Answers.{tag_of, tags_of}
@@ -33,8 +33,3 @@ module _ (ss : List Tag) (i : ℕ) (d : Tag) (h : i < length ss) where
       ∙ ap (λ k. source_at
       (if is_source k then Some (tag_of (get_or ss i d)) else first_source (tags_of (drop (i + 1) ss)))) e
       ∙ ap (λ k. source_by k (tag_of (get_or ss i d))) e
-
-  pub none-found : is_source (key_of (get_or ss i d).key.now) ≡ false → source_at (first_source (tags_of (drop i ss)))
-      ≡ source_at (first_source (tags_of (drop (i + 1) ss)))
-  none-found e = ap source_at step
-      ∙ ap (λ b. source_at (if b then Some (tag_of (get_or ss i d)) else first_source (tags_of (drop (i + 1) ss)))) e

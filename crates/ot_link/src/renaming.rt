@@ -12,9 +12,9 @@ ghost use Rattle.ot_link.specs.Adding.{AreRight, is_held_by, with_pair, added, I
 ghost use Rattle.ot_link.specs.Lawful.{BlocksAreNaming};
 
 use ot_interp::{Interp, after_law};
-use ot_logic::{Memory, Name, NameFault, NameId};
+use ot_logic::{Memory, NameId};
 use ot_machine::{Session, lines_law};
-use ot_theory::{Key, SymbolWord, Tag, key_of, one_interpretation, split_interpret};
+use ot_theory::{Key, SymbolWord, Tag, key_of, one_interpretation, quoted_name, split_interpret};
 use std::alloc::Global;
 
 /// The interpretation that the statements of a block write.
@@ -111,19 +111,8 @@ fn number_of(alloc: Global, session: &mut Session, quoted: &[u8]) -> Result<Name
     ensures session { IsRun session.new }
     ensures run { run_of session.new ≡ run_of session.old }
 {
-    let name = name_of(alloc, quoted)?;
+    let name = quoted_name(alloc, quoted)?;
     session.intern(name)
-}
-
-fn name_of(alloc: Global, quoted: &[u8]) -> Result<Name, Memory>
-    requires { IsQuotedName quoted.now }
-    ensures { IfOk result (λ name. name_read quoted.now ≡ Some name) }
-{
-    match Name::read(alloc, quoted) {
-        Ok(name) => Ok(name),
-        Err(NameFault::Memory) => Err(Memory),
-        Err(NameFault::Unterminated | NameFault::Trailing) => unreachable!(),
-    }
 }
 
 /// Adds a pair of this kind.

@@ -35,7 +35,6 @@ use Rattle.ot_machine.specs.declared.makers.canonical.Known.{Known}
 use Rattle.ot_machine.specs.declared.session.Session.{Session}
 use Rattle.ot_machine.specs.Meaning.{origin_of, IsRun, Grows}
 use Rattle.ot_machine.proofs.Kept.{at-Extends, origin-kept}
-use Rattle.ot_machine.specs.Occurrences.{same_occurrence}
 use Rattle.ot_machine.proofs.Occurrences.{occurrences-later}
 
 -- ---- the nameless form
@@ -285,18 +284,6 @@ module _ (s t : Session) (grown : Grows s t) where
       ≡ kernel.theorem_at s.kernel i
   theorem-later i h = at-Extends s.kernel.theorems t.kernel.theorems grown.kernel.theorems
       (record { hyps = []; concl = Bound 0 }) i h
-
--- nothing is known yet
-pub known-none : (s : Session) (k : Known) → k.types.entries ≡ [] → k.terms.entries ≡ [] → k.free.entries ≡ []
-    → AreKnown s k
-known-none s k e f g = record {
-  types = record { known = λ y i p. absurd (none-there (sym (ap (λ es. lookup (nat_eq y) es) e) ∙ p)) };
-  terms = record { known = λ q i p. absurd (none-there (sym (ap (λ es. lookup (same_part q) es) f) ∙ p)) };
-  free = record { known = λ o b p. absurd (none-there (sym (ap (λ es. lookup (same_occurrence o) es) g) ∙ p)) };
-}
-  where
-    none-there : {X : Type 0} {x : X} → ◌≡◌ {A = Option X} None (Some x) → ⊥
-    none-there p = cc
 
 -- the type of a term
 pub type-is : (t : Named Name) (ty : Ty Name) → named_type names t ≡ Some ty → ty ≡ type_of names (nameless names t)

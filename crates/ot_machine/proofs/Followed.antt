@@ -1,6 +1,6 @@
 -- A run so far over a source that may tell its bytes.
 use Rattle.std.specs.Prelude.{Ok, Err, Option, Some, None, IfSome}
-use Rattle.std.proofs.Common.{◌≡◌, ℕ, List, [], sym, ap, subst, ◌∙◌, refl}
+use Rattle.std.proofs.Common.{◌≡◌, ℕ, List, [], ap, ◌∙◌, refl}
 use Rattle.ot_logic.specs.Faults as stated
 use Rattle.ot_scan.specs.Lines.{Scan, Lines, lines_of, lines_to_come, TakesLine, TakesFrom}
 use Rattle.ot_scan.specs.declared.lines.Line.{Line}
@@ -14,20 +14,14 @@ use Rattle.ot_machine.specs.Conversions.{article_fault, refusal}
 use Rattle.ot_machine.specs.States.{State, Context}
 use Rattle.ot_machine.specs.Run.{line_step, run}
 use Rattle.ot_machine.specs.Answers.{Refuses, Runs}
-use Rattle.ot_machine.proofs.Reached.{After, after_start, after_more, after_run, runs_stopped}
+use Rattle.ot_machine.proofs.Reached.{After, after_more, after_run, runs_stopped}
 
 module _ (c : Context) (max : ℕ) (start : State) where
-  -- where the source told its bytes at the start, it tells those that are left, and some of the first lines passed
+  -- where the source's bytes were known at the start, those that are left are, and some of the first lines passed
   abbrev pub Follows : State → Scan → Option (List ℕ) → Option (List ℕ) → Type 0
   Follows now scan None left = Unit {0}
   Follows now scan (Some bytes) None = ⊥
   Follows now scan (Some bytes) (Some left) = After c (lines_of max bytes) start now (lines_to_come scan left)
-
-  pub follows-start : (scan : Scan) (left : Option (List ℕ))
-      → scan ≡ record { max = max; held = []; before = 0; number = 0 } → Follows start scan left left
-  follows-start scan None is = tt
-  follows-start scan (Some bytes) is = subst (λ s. After c (lines_of max bytes) start start (lines_to_come s bytes))
-      (sym is) (after_start c (lines_of max bytes) start)
 
   -- at the end of the lines the run has ended
   pub follows-end : (k : kernel.State) (now : State) (old new : Scan) (all left left' : Option (List ℕ))

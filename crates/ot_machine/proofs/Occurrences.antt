@@ -2,12 +2,12 @@
 use Rattle.std.specs.Prelude.{◌≡◌, ◌≢◌, ◌&&◌, nat_eq, cond, Bool, true, false, List, [], Some}
 use Rattle.std.specs.Bool.{Decides}
 use Rattle.std.specs.Map.{lookup}
-use Rattle.std.proofs.Common.{refl, sym, ap, subst, ◌∙◌, arith, inl, inr, eqb-true}
+use Rattle.std.proofs.Common.{refl, sym, ap, subst, ◌∙◌, arith, eqb-true}
 use Rattle.std.proofs.lemmas.Bool.{and_parts}
 use Rattle.std.proofs.lemmas.Option.{same_Some}
 use Rattle.ot_logic.specs.Names.{Name}
 use Rattle.ot_logic.specs.Naming.{names}
-use Rattle.ot_logic.specs.Trees.{TyVar, Variable, Named, NVar, NConst, NApp, NAbs}
+use Rattle.ot_logic.specs.Trees.{TyVar, Variable, Named, NVar, NConst, NAbs}
 use Rattle.ot_logic.specs.Hol.{same_var}
 use Rattle.ot_logic.specs.NamedTerms.{IsFreeIn}
 use Rattle.ot_laws.proofs.Tests.{tells_names, same_var-is}
@@ -20,21 +20,6 @@ use Rattle.ot_machine.proofs.Kept.{at-Extends}
 module _ (v : Variable Name) where
   pub free-variable : (w : Variable Name) (b : Bool) → b ≡ same_var names w v → Decides b (IsFreeIn names v (NVar w))
   free-variable w b e = subst (λ c. Decides c (w ≡ v)) (sym e) (same_var-is names tells_names w v)
-
-  pub free-constant : (n : Name) → Decides false (IsFreeIn names v (NConst n (TyVar n)))
-  free-constant n = ((λ p. cc), λ p. absurd p)
-
-  pub free-function : (f x : Named Name) (b : Bool) → Decides b (IsFreeIn names v f) → b ≡ true
-      → Decides true (IsFreeIn names v (NApp f x))
-  free-function f x b d e = ((λ p. inl (d.0 e)), λ p. refl)
-
-  pub free-argument : (f x : Named Name) (b c : Bool) → Decides b (IsFreeIn names v f) → b ≡ false
-      → Decides c (IsFreeIn names v x) → Decides c (IsFreeIn names v (NApp f x))
-  free-argument f x true c d e g = cc
-  free-argument f x false c d e g = ((λ p. inr (g.0 p)), λ p. elim p [ inl q ↦ absurd (no (d.1 q)) | inr q ↦ g.1 q ])
-    where
-      no : false ≡ true → ⊥
-      no p = cc
 
   pub free-bound : (w : Variable Name) (t : Named Name) → same_var names w v ≡ true
       → Decides false (IsFreeIn names v (NAbs w t))

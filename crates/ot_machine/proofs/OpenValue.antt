@@ -281,22 +281,6 @@ module _ (abs rep : Name) (new old : Ty Name) (p : Tm Name) (v : Read) where
     y-value = let l = old-depth in
         term-value (NVar vr) old refl (shallow-low (NVar vr) (shallow-of y (omega arith) y-types))
 
-    -- the limit in numbers: p lies 5 levels below it
-    pub deepest-room : deepest ≡ true → suc (suc (suc (suc (suc (depth_tm names p))))) ≤ depth_limit
-    deepest-room k = let l = (low-of names tells_names bool e4 (App p y) k).left_depth in omega (arith, l)
-
-    pub room-deepest : has_shallow_types names [] p ≡ true → suc (suc (suc (suc (suc (depth_tm names p)))))
-        ≤ depth_limit → deepest ≡ true
-    room-deepest types room =
-        from-low names tells_names bool e4 (App p y) e4-typed holds-typed
-        (record {
-          left_depth = omega (arith, room);
-          right_depth = omega (arith, room);
-          ty_depth = omega arith;
-          left = e4-types;
-          right = app-types p y bool holds-typed (omega arith) types y-types;
-        })
-
     module _ (k : deepest ≡ true) where
       abbrev deep : Low names tells_names bool e4 (App p y)
       deep = low-of names tells_names bool e4 (App p y) k

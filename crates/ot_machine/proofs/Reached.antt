@@ -20,9 +20,6 @@ module _ (c : Context) where
     pub rest_is : behind count all ≡ rest
     pub now_is : run c (front count all) start ≡ Ended now
 
-  pub after_start : (all : Lines) (start : State) → After all start start all
-  after_start all start = record { count = 0; rest_is = refl; now_is = refl }
-
   -- the run goes on as the run of what is left
   run_behind : (k : ℕ) (all : Lines) (start now : State) → run c (front k all) start ≡ Ended now
       → run c all start ≡ run c (behind k all) now

@@ -1,18 +1,11 @@
 -- Names that are read from quoted texts.
-use Rattle.std.specs.Prelude.{◌≡◌, ℕ, [], slice_get, false, is_some, Option, Some, None, Ok}
+use Rattle.std.specs.Prelude.{◌≡◌, ℕ, [], slice_get, Option, Some, Ok}
 use Rattle.std.proofs.Common.{sym, ◌∙◌, ap}
 use Rattle.std.proofs.lemmas.Option.{get_or_from_slice_get}
 use Rattle.ot_logic.specs.Names.{Name}
 use Rattle.ot_logic.specs.Faults as faults
 use Rattle.ot_logic.specs.Answers.{some_or}
 use Rattle.ot_kernel.specs.State as kernel
-use Rattle.ot_machine.specs.declared.fault.Fault.TheVariants as code
-use Rattle.ot_machine.specs.Answers.{Refuses}
-
-pub no_name : (k : kernel.State) (o : Option Name) → false ≡ is_some o
-    → Refuses k code.BadName (some_or {E = faults.Fault Name} faults.BadName o)
-no_name k None h = (tt, λ f e. cc)
-no_name k (Some n) h = cc
 
 pub a_name : (o : Option Name) (k : kernel.State) (i : ℕ) (n : Name) → o ≡ Some n → slice_get k.names i ≡ Some n
     → some_or {E = faults.Fault Name} faults.BadName o ≡ Ok (kernel.name_at k i)

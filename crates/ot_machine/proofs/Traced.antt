@@ -179,9 +179,6 @@ module _ (s : Session) (cs : List Objects) (stack : List Entry) (place : ℕ) (e
   pub origin-there : origin_at place stack ≡ origin_or s e.object e.step
   origin-there = rw at refl
 
-  pub number-there : (k : ℤ) → e.object ≡ objects.Number k → e.step ≡ None → origin_at place stack ≡ Number k
-  number-there k is none = origin-there ∙ (λ i. origin_or s (is i) (none i))
-
   pub step-there : (i : ℕ) → e.step ≡ Some i → origin_at place stack ≡ origin_of s i
   step-there i is = origin-there ∙ ap (origin_or s e.object) is
 

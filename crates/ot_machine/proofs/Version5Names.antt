@@ -238,10 +238,6 @@ module _ (b : Basis) (has : HasVersion5 b.IsNamed) where
       (All-cons (EntryFits b) a (c ∷ []) f (All-cons (EntryFits b) c [] g (All-nil (EntryFits b))))
   open-fit abs rep new t qs ths all to from new_named h q = absurd (cc)
 
-  vars-named : (vs : List Name) → AllByRecursion P vs → TysNamed P (tys_of_vars names vs)
-  vars-named [] h = tt
-  vars-named (v ∷ vs) h = (h.0, vars-named vs h.1)
-
 module _ (P : Name → Type 0) (has : HasVersion5 P) where
   -- the row of version 5 keeps a state lawful
   pub type_op_5-keeps : (c : Context) (s t : State) → IsNaming P c → IsLawful P s → define_type_op_5_row c s

@@ -43,7 +43,7 @@ composed f g x = app f (app g x)
 abbrev pub outcome_at : ℕ → Origin Name → Origin Name → Origin Name
 outcome_at j d x = make_two words.AppThm (Outcome j d) (make_one words.Refl x)
 
--- from an equation of two redexes that of what they come to
+-- from an equation of two redexes that of what they reduce to
 abbrev pub reduced : Origin Name → Origin Name → Origin Name → Origin Name
 reduced e th f = make_two words.Trans (make_two words.Trans (make_one words.Sym (make_one words.BetaConv e)) th)
     (make_one words.BetaConv f)

@@ -39,13 +39,13 @@ impl Session {
         ensures inside { IfOk result (λ n. n < length self.new.kernel.names) }
         ensures kept { Leaves self.old self.new machine.now }
     {
-        if !Name::is_name(text) {
+        let [b'"', ..] = text else {
             return Err(Fault::BadName);
-        }
+        };
         match Name::read(alloc, text) {
             Ok(name) => Ok(self.kernel.intern(name)?),
             Err(NameFault::Memory) => Err(Fault::Memory),
-            Err(_) => Err(Fault::BadName),
+            Err(NameFault::Unterminated | NameFault::Trailing) => Err(Fault::BadName),
         }
     }
 

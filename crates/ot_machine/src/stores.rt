@@ -146,7 +146,7 @@ impl Session {
         Ok(())
     }
 
-    /// Takes out what is stored under a key.
+    /// Removes what is stored under a key.
     pub(crate) fn forget(&self, machine: &mut Machine, key: i64)
         requires { IsOf self.now machine.old }
         ensures changed { article_of self.now machine.new

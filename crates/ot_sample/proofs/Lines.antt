@@ -1,13 +1,7 @@
 -- The loops over words, and over the doubled terms.
-use Rattle.std.specs.Prelude.{◌≡◌, ℕ, ◌+◌, ◌*◌, ◌<◌, ◌==◌, cond, List, [], ◌∷◌, ◌++◌, length, take}
-use Rattle.std.proofs.Common.{◌∙◌, ap, append_assoc, get_or}
-use Rattle.std.proofs.lemmas.List.{take_more, map-append}
-use Rattle.ot_sample.specs.Sample.{lines, opening, doubled, doublings, redex, equality, exported, sample}
-
-pub lines-more : (words : List ℕ) (i d : ℕ) → i < length words → lines (take (i + 1) words) ≡ lines (take i words)
-    ++ cond (get_or words i d == 32) 10 (get_or words i d) ∷ []
-lines-more words i d lt = ap lines (take_more words i d lt)
-    ∙ map-append (λ b. cond (b == 32) 10 b) (take i words) (get_or words i d ∷ [])
+use Rattle.std.specs.Prelude.{◌≡◌, ℕ, ◌+◌, ◌*◌, List, ◌++◌}
+use Rattle.std.proofs.Common.{◌∙◌, ap, append_assoc}
+use Rattle.ot_sample.specs.Sample.{opening, doubled, doublings, redex, equality, exported, sample}
 
 pub sample-whole : (n k : ℕ) (text beta equal whole old new : List ℕ) → k ≡ n → text ≡ opening ++ doublings k
     → beta ≡ text ++ redex (6 + 2 * n) (8 + 2 * n) → equal ≡ beta ++ equality

@@ -92,14 +92,14 @@ pub record Takes (result : Result (Option Line) ScanFault) (old : Scan) (left : 
   pub line : TakesLine result (lines_to_come old left) (lines_to_come new left')
   pub end : IfOk result (λ o. IfNone o ((new.held ≡ []) × (left' ≡ [])))
 
--- the next line was taken, where the source tells its bytes; one that tells them goes on to do so
+-- the next line was taken, where the source's bytes are known; then those that are left are known too
 abbrev pub TakesFrom : Result (Option Line) ScanFault → Scan → Scan → Option (List ℕ) → Option (List ℕ) → Type 0
 TakesFrom result old new None left' = Unit {0}
 TakesFrom result old new (Some left) None = ⊥
 TakesFrom result old new (Some left) (Some left') = Takes result old left new left'
 
--- a line has a number of its own, greater than those of before, which the limit bounds; also where the source tells
--- nothing
+-- a line has a number of its own, greater than those of before, which the limit bounds; also where the source's
+-- bytes aren't known
 pub record Counts (result : Result (Option Line) ScanFault) (old new : Scan) : Type 0 where
   pub max : new.max ≡ old.max
   pub line : IfOk result

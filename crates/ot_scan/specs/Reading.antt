@@ -58,7 +58,7 @@ pub record GoesOn (old new : Scan) : Type 0 where
   pub max : new.max ≡ old.max
   pub number : old.number ≤ new.number
 
--- these are the lines to come, where the source tells its bytes
+-- these are the lines to come, where the source's bytes are known
 abbrev pub AreToCome : Lines → Scan → Option (List ℕ) → Type 0
 AreToCome lines scan left = IfSome left (λ bytes. lines_to_come scan bytes ≡ lines)
 

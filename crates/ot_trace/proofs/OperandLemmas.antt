@@ -1,9 +1,7 @@
 -- Lemmas on the operands of a step.
-use Rattle.std.proofs.Common.{◌≡◌, ℕ, zero, suc, ◌<◌, List, [], ◌∷◌, slice_index_or}
+use Rattle.std.proofs.Common.{◌≡◌, ℕ, zero, suc, List, [], ◌∷◌, slice_index_or}
 use Rattle.std.proofs.Common.{Some, slice_get, pos, refl, sym, ap, ◌∙◌}
-use Rattle.std.specs.List.{All}
 use Rattle.std.proofs.lemmas.Option.{get_or_from_slice_get}
-use Rattle.std.proofs.lemmas.List.Elements.{All-head, All-tail}
 use Rattle.ot_trace.specs.Origins.{Origin, Number, listed, at_or, operand, operands}
 use Rattle.ot_trace.specs.Trace.{origin_at, origins_at, origin_of, operand_numbers}
 use Rattle.ot_trace.specs.declared.step.Step.{Step}
@@ -15,13 +13,6 @@ pub operand-place : (ts : List (Origin ℕ)) (is : List ℕ) (place id : ℕ) �
 operand-place ts [] place id = refl
 operand-place ts (i ∷ is) zero id = refl
 operand-place ts (i ∷ is) (suc place) id = operand-place ts is place id
-
--- the number at a place is one of the table, where the others are
-pub place-inside : (n : ℕ) (is : List ℕ) (place id : ℕ) → id < n → All (λ i. i < n) is → slice_index_or is place id
-    < n
-place-inside n [] place id within h = within
-place-inside n (i ∷ is) zero id within h = All-head (λ i. i < n) i is h
-place-inside n (i ∷ is) (suc place) id within h = place-inside n is place id within (All-tail (λ i. i < n) i is h)
 
 listed-are : (ts : List (Origin ℕ)) (s : Step) → operands (origin_of ts s)
     ≡ listed (origins_at ts (operand_numbers s))

@@ -47,7 +47,3 @@ module _ (al : List (Sequent Name)) (dl : List (Definition Name)) where
     pub HaveLeaves : Origins Name → Type 0
     HaveLeaves NoOrigins = Unit {0}
     HaveLeaves (MoreOrigins o os) = HasLeaves o × HaveLeaves os
-
-  -- a law: then the value of the origin is of well typed terms and theorems
-  abbrev pub ValuesAreGood : Type 0
-  ValuesAreGood = (o : Origin Name) → HasLeaves o → IfOk (value o) IsGood

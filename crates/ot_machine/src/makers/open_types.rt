@@ -213,7 +213,7 @@ impl Session {
         Ok(self.made_of(machine, Cmd::AppThm, &[theorem, same])?)
     }
 
-    /// The step of the theorem that two redexes come to the same, from that of their equation.
+    /// The step of the theorem that two redexes reduce to one term, from that of their equation.
     fn reduced_step(
         &mut self,
         machine: &Machine,

@@ -1,10 +1,7 @@
 use Rattle.std.proofs.lemmas.Option.{slice_get_within}
 use Rattle.ot_machine.proofs.Kept.{leaves}
-use Rattle.ot_machine.proofs.Readings.{no_name, a_name}
+use Rattle.ot_machine.proofs.Readings.{a_name}
 use Rattle.ot_machine.proofs.session.Session.read_name.Goals as goal
-
-pub returns-then-not-is_name-clause-made : goal.returns-then-not-is_name-clause-made
-returns-then-not-is_name-clause-made c = no_name c.args.self.now.kernel _ c.if-not-is_name.ensures
 
 pub returns-in_err-intern-in-Ok-clause-kept : goal.returns-in_err-intern-in-Ok-clause-kept
 returns-in_err-intern-in-Ok-clause-kept c = leaves _ _ _ c.requires c.intern.ensures.keeps c.intern.ensures.same.basis
