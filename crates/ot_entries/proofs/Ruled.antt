@@ -1,11 +1,9 @@
 -- A rule of an article that isn't refused is a case of a log, and within the log's limit.
-use Rattle.std.specs.Prelude.{not, is_some, ◌&&◌}
-use Rattle.std.specs.List.{list_all}
-use Rattle.std.proofs.Common.{◌≡◌, Bool, true, List, [], ◌∷◌, Ok, refl, ap, ◌∙◌, arith}
-use Rattle.std.proofs.lemmas.Bool.{and_parts}
+use Rattle.std.specs.Prelude.{not, is_some}
+use Rattle.std.proofs.Common.{◌≡◌, Bool, true, [], ◌∷◌, Ok, ap, ◌∙◌}
 use Rattle.ot_logic.specs.Trees.{Alphabet, Ty, Variable, Tm, App, Abs, Sequent}
 use Rattle.ot_logic.specs.Hol.{same_ty, fun_ty, bool_ty, as_fun_ty, type_of, IsWellTyped, close}
-use Rattle.ot_logic.specs.Hol.{opened, is_shallow, is_shallow_sequent, same_tm, equation}
+use Rattle.ot_logic.specs.Hol.{opened, same_tm, equation}
 use Rattle.ot_logic.specs.Hol.{as_equation, minus, union, is_free_in_some, sequent_of}
 use Rattle.ot_logic.specs.Faults.{NotBool, NotEquation, NotAlphaEqual, VarFreeInHyps, NotFunction, ArgumentType}
 use Rattle.ot_logic.specs.Answers.{◌>>=◌, unless, some_or}
@@ -14,29 +12,12 @@ use Rattle.ot_logic.specs.Rules.{abs_thm_rule, app_thm_rule, deduct_antisym_rule
 use Rattle.ot_laws.proofs.Tests.{Tells}
 use Rattle.ot_laws.proofs.Steps.{within_limit-ok, limit-ok}
 use Rattle.ot_records.specs.Tokens.{BadStep}
-use Rattle.ot_records.specs.Steps.{Step, is_well_typed, is_within, is_sequent_within}
+use Rattle.ot_records.specs.Steps.{Step, is_well_typed}
 use Rattle.ot_records.specs.Steps.{sides_of, refl_step, assume_step, eq_mp_step, abs_thm_step}
 use Rattle.ot_records.specs.Steps.{app_thm_step, deduct_antisym_step, beta_step}
-use Rattle.ot_entries.proofs.Fitting.{fits-shallow, within-fits}
 use Rattle.ot_logic.proofs.Results.{bind-ok, same_Ok, some_or-ok, unless-ok}
 
 module _ {N : Type 0} (alphabet : Alphabet N) (tells : Tells alphabet) where
-  -- ---- the limit
-  within-shallow : (t : Tm N) → is_shallow alphabet t ≡ true → is_within alphabet t ≡ true
-  within-shallow t h = within-fits alphabet 4096 (omega arith) t (fits-shallow alphabet t h)
-
-  all-within : (ts : List (Tm N)) → list_all (is_shallow alphabet) ts ≡ true → list_all (is_within alphabet) ts ≡ true
-  all-within [] h = refl
-  all-within (t ∷ ts) h =
-      let p = and_parts (is_shallow alphabet t) (list_all (is_shallow alphabet) ts) h in
-      λ i. within-shallow t p.0 i && all-within ts p.1 i
-
-  -- what is within the limit of an article is within that of a log
-  pub sequent-within : (q : Sequent N) → is_shallow_sequent alphabet q ≡ true → is_sequent_within alphabet q ≡ true
-  sequent-within q h =
-      let p = and_parts (list_all (is_shallow alphabet) q.hyps) (is_shallow alphabet q.concl) h in
-      λ i. all-within q.hyps p.0 i && within-shallow q.concl p.1 i
-
   -- ---- the rules
   ruled : (q r : Sequent N) → within_limit alphabet q ≡ Ok r → ◌≡◌ {A = Step alphabet} (Ok q) (Ok r)
   ruled q r h = ap Ok (within_limit-ok alphabet tells q r h).1

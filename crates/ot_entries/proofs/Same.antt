@@ -15,7 +15,7 @@ use Rattle.ot_laws.proofs.Hypotheses.{distinct-minus, IsMember-once_each, distin
 use Rattle.ot_records.specs.Tokens.{BadStep}
 use Rattle.ot_records.specs.Steps.{Step, sides_of, first_pairs, eq_mp_step, abs_thm_step}
 use Rattle.ot_records.specs.Steps.{app_thm_step, deduct_antisym_step, subst_step}
-use Rattle.ot_entries.specs.Making.{IsSame}
+use Rattle.ot_entries.specs.Same.{IsSame}
 use Rattle.ot_logic.proofs.Members.{IsMember-map, IsMember-map_back}
 use Rattle.ot_logic.proofs.Results.{bind-ok, same_Ok, unless-ok}
 

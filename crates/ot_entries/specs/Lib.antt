@@ -5,4 +5,4 @@ pub mod Expansions
 pub mod Logged
 pub mod Bytes
 pub mod Closed
-pub mod Making
+pub mod Same

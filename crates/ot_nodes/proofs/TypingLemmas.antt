@@ -1,5 +1,5 @@
 -- Types of nameless terms under binders, in a table that grows.
-use Rattle.std.specs.Prelude.{nat_le, ◌-◌}
+use Rattle.std.specs.Prelude.{◌-◌}
 use Rattle.std.specs.Map.{lookup}
 use Rattle.std.specs.Option.{option_map, ForSome}
 use Rattle.std.specs.Cmp.Lexicographic.{pointwise}
@@ -15,9 +15,9 @@ use Rattle.ot_logic.specs.Names.{Name, same_name}
 use Rattle.ot_logic.specs.Naming.{names}
 use Rattle.ot_logic.specs.Table.{Extends, IsInjective}
 use Rattle.ot_logic.specs.Trees.{Ty, TyVar, TyOp, NoTys, MoreTys, Tm, App, Abs}
-use Rattle.ot_logic.specs.Hol.{depth_ty, same_ty, fun_ty, as_fun_ty, result_ty, applied, type_in}
+use Rattle.ot_logic.specs.Hol.{same_ty, fun_ty, as_fun_ty, result_ty, applied, type_in}
 use Rattle.ot_laws.proofs.Tests.{tells_names, same_ty-is}
-use Rattle.ot_records.specs.Steps.{log_depth, is_within_type, has_types_within}
+use Rattle.ot_records.specs.Steps.{is_within_type}
 use Rattle.ot_records.specs.Walks.{loose}
 use Rattle.ot_records.proofs.Walking.{type-cut, within-cut}
 use Rattle.ot_nodes.specs.Items.{Item, IsType, HasType, HasTerm, type_at, term_at}
@@ -114,22 +114,7 @@ typing-cut ts us l t is (Some r) c h =
     record { number = h.number; type = sym c.type ∙ h.type; parts = h.parts ∙ c.parts }
 
 -- ---- each node
-and-true : (b : Bool) → (b && true) ≡ b
-and-true true = refl
-and-true false = refl
-
 module _ (ts : List Item) (l : List (Ty Name)) where
-  -- a leaf of this type
-  pub typing-leaf : (t : Tm Name) (ty : ℕ) (r : Typed) → HasType ts ty → type_in names l t ≡ Some (type_at ts ty)
-      → has_types_within names l t ≡ is_within_type names (type_in names l t) → IsTyped ts ty true r
-      → HasTyping ts l t r
-  typing-leaf t ty r here type parts typed = record {
-    number = subst (HasType ts) (sym typed.number) here;
-    type = type ∙ ap (λ i. Some (type_at ts i)) (sym typed.number);
-    parts = typed.all ∙ and-true (nat_le (depth_ty names (type_at ts ty)) log_depth)
-        ∙ sym (parts ∙ ap (is_within_type names) type);
-  }
-
   -- an application
   module _ (t u : Tm Name) (f x : Typed) (left : HasTyping ts l t f) (right : HasTyping ts l u x) where
     whole : type_in names l (App t u) ≡ result_ty names (type_at ts f.ty) (type_at ts x.ty)

@@ -17,3 +17,4 @@ pub mod Checked
 pub mod PutIn
 pub mod Growing
 pub mod Defined
+pub mod ByHash

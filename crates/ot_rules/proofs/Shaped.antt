@@ -1,20 +1,19 @@
 -- Terms and types of a shape, or of none.
 use Rattle.std.specs.Prelude.{◌≢◌, MatchOption}
 use Rattle.std.specs.Bool.{Decides}
-use Rattle.std.proofs.Common.{◌≡◌, length, arith, ℕ, Bool, true, false, ◌&&◌, List, [], ◌∷◌, Option}
+use Rattle.std.proofs.Common.{◌≡◌, length, arith, ℕ, Bool, true, false, List, [], ◌∷◌, Option}
 use Rattle.std.proofs.Common.{Some, None, nat_eq, eq-eqb, eqb-true, true≢false, refl, sym, ap, ◌∙◌}
-use Rattle.std.proofs.lemmas.Option.{same_Some}
 use Rattle.ot_logic.specs.Names.{Name}
 use Rattle.ot_logic.specs.Naming.{names}
 use Rattle.ot_logic.specs.Trees.{Ty, TyOp, NoTys, MoreTys, Tm, Con, App}
-use Rattle.ot_logic.specs.Hol.{fun_ty, bool_ty, as_fun_ty, equation, as_equation}
+use Rattle.ot_logic.specs.Hol.{fun_ty, bool_ty, equation, as_equation}
 use Rattle.ot_logic.specs.Table.{Extends, IsInjective}
 use Rattle.ot_laws.proofs.Tests.{tells_names}
-use Rattle.ot_laws.proofs.Typing.{as_fun_ty-some, as_fun_ty-fun}
+use Rattle.ot_laws.proofs.Typing.{as_fun_ty-some}
 use Rattle.ot_laws.proofs.Equations.{as_equation-equation, as_equation-some}
 use Rattle.ot_nodes.specs.Items.{Item, HasName, name_at, type_at, types_at, term_at, first_items}
 use Rattle.ot_nodes.specs.Shapes.{IsFunction}
-use Rattle.ot_nodes.proofs.ItemLemmas.{name-is, name-one, type-one, has-name}
+use Rattle.ot_nodes.proofs.ItemLemmas.{name-is, name-one, has-name}
 use Rattle.ot_rules.specs.Shapes.{IsApp, equals_at, IsEquals, IsRelation, AreSides}
 use Rattle.ot_rules.specs.declared.shapes.Sides.{Sides}
 
@@ -41,16 +40,6 @@ module _ (ts : List Item) where
         left = b.x;
         right = a.x;
       }
-
-  pub no-app : (id : ℕ) → ((f x : Tm Name) → term_at ts id ≢ App f x) → as_equation names (term_at ts id) ≡ None
-  no-app id h = no-equation (term_at ts id) (λ a l r e. h (App (equals_at a) l) r e)
-
-  pub no-half : (id half right : ℕ) → IsApp ts id half right → ((f x : Tm Name) → term_at ts half ≢ App f x)
-      → as_equation names (term_at ts id) ≡ None
-  no-half id half right a h =
-      no-equation (term_at ts id)
-      (λ t l r e. let k : App (term_at ts half) (term_at ts right) ≡ App (App (equals_at t) l) r = sym a.is ∙ e in
-      let p : term_at ts half ≡ App (equals_at t) l = cc in h (equals_at t) l p)
 
   pub no-equals : (id half right equals left : ℕ) → IsApp ts id half right → IsApp ts half equals left
       → ((t : Ty Name) → term_at ts equals ≢ equals_at t) → as_equation names (term_at ts id) ≡ None
@@ -104,36 +93,6 @@ module _ (ts : List Item) (first : Extends first_items ts) (one : IsInjective ts
             (type_at ts truth) g.is ∙ (λ i. fun_ty names (type_at ts (sym same i)) (truly i)));
         ty = f.from;
       }
-
-  pub relation-parts : (id a predicate : ℕ) → IsFunction ts id a predicate → (t u : Ty Name)
-      → type_at ts id ≡ fun_ty names t u → (type_at ts a ≡ t) × (type_at ts predicate ≡ u)
-  relation-parts id a predicate f t u e =
-      let k : Some (type_at ts a, type_at ts predicate) ≡ Some (t, u) = sym f.is ∙ ap (as_fun_ty names) e
-      ∙ as_fun_ty-fun names tells_names t u in
-      let p : (type_at ts a, type_at ts predicate) ≡ (t, u) =
-      same_Some (type_at ts a, type_at ts predicate) (t, u) k in
-      (ap (λ (x : Ty Name × Ty Name). x.0) p, ap (λ (x : Ty Name × Ty Name). x.1) p)
-
-  pub no-function : (id : ℕ) → as_fun_ty names (type_at ts id) ≡ None → (t u : Ty Name)
-      → type_at ts id ≢ fun_ty names t u
-  no-function id h t u e = let k : Some (t, u) ≡ None =
-      sym (ap (as_fun_ty names) e ∙ as_fun_ty-fun names tells_names t u) ∙ h in cc
-
-  pub no-predicate : (id a predicate : ℕ) → IsFunction ts id a predicate → as_fun_ty names (type_at ts predicate)
-      ≡ None → (t : Ty Name) → type_at ts id ≢ fun_ty names t (fun_ty names t (bool_ty names))
-  no-predicate id a predicate f h t e = no-function predicate h t (bool_ty names)
-      (relation-parts id a predicate f t (fun_ty names t (bool_ty names)) e).1
-
-  pub no-relation : (id a predicate b truth : ℕ) (same truly : Bool) → IsFunction ts id a predicate
-      → IsFunction ts predicate b truth → same ≡ nat_eq a b → Decides truly (type_at ts truth ≡ bool_ty names)
-      → (same && truly) ≡ false → (t : Ty Name) → type_at ts id ≢ fun_ty names t (fun_ty names t (bool_ty names))
-  no-relation id a predicate b truth same truly f g s d contrary t e =
-      let p = relation-parts id a predicate f t (fun_ty names t (bool_ty names)) e in
-      let q = relation-parts predicate b truth g t (bool_ty names) p.1 in
-      let one_number : a ≡ b = type-one ts one a b f.from g.from (p.0 ∙ sym q.0) in
-      let so : same ≡ true = s ∙ eq-eqb a b one_number in
-      let whole : (same && truly) ≡ true = (λ i. so i && d.1 q.1 i) in
-      true≢false (sym whole ∙ contrary)
 
   -- ---- the type of propositions
   pub boolean-made : (id n : ℕ) (is : List ℕ) → type_at ts id ≡ TyOp (name_at ts n) (types_at ts is)

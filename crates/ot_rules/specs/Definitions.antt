@@ -41,7 +41,8 @@ HasDefinition ts (kind.Constants ps q) = HasPairs ts ps.items × HasStatement ts
 HasDefinition ts (kind.TypeOperator n abs rep vs q) = HasName ts n × HasName ts abs × HasName ts rep
     × All (HasName ts) vs.items × HasStatement ts q
 
--- the sequents are the theorems of the definition, which the case gives; or it gives none. Want of memory is free
+-- the sequents are the theorems of the definition, which the case gives; or it gives none.
+-- Running out of memory may be answered at any point
 abbrev pub Defines : Result (Vec Statement) StepFault → Definition Name → Result (Definition Name) LogFault
     → List Item → Type 0
 Defines (Ok v) d step ts = All (HasStatement ts) v.items × (map (sequent_at ts) v.items ≡ theorems names d)

@@ -24,5 +24,5 @@ pub use put::subst;
 pub use rules::{app_thm, assume, beta_conv, deduct_antisym, eq_mp, refl};
 pub use shapes::{Sides, as_equation};
 pub use signature::Signature;
-pub use statement::{Statement, StepFault};
+pub use statement::{Statement, StepFault, minus, union};
 pub use typing::{are_statements_within, is_statement_within};

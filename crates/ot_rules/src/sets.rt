@@ -24,12 +24,20 @@ pub(crate) fn add_all<T: Copy + Eq + Hash>(set: &mut IndexSet<T>, items: &[T]) -
     Ok(())
 }
 
+/// The items of a list, each once.
+pub(crate) fn set_of<T: Copy + Eq + Hash>(alloc: Global, items: &[T]) -> Result<IndexSet<T>, Memory>
+    ensures { IfOk result (λ set. set.keys ≡ fold (insert_key T.eq) [] items.now) }
+{
+    let mut set = IndexSet::new(alloc);
+    add_all(&mut set, items)?;
+    Ok(set)
+}
+
 /// Whether no item stands twice in the list.
 pub(crate) fn are_distinct<T: Copy + Eq + Hash>(alloc: Global, items: &[T]) -> Result<bool, Memory>
     requires { (x y : T) → Decides (T.eq x y) (x ≡ y) }
     ensures { IfOk result (λ b. b ≡ are_distinct T.eq items.now) }
 {
-    let mut set = IndexSet::new(alloc);
-    add_all(&mut set, items)?;
+    let set = set_of(alloc, items)?;
     Ok(set.len() == items.len())
 }

@@ -4,9 +4,13 @@ ghost use Rattle.std.specs.List.{list_any};
 ghost use Rattle.ot_rules.specs.Statements.{once_of};
 ghost use Rattle.ot_rules.specs.declared.statement.StepFault.TheVariants.{Memory as OutOfMemory};
 
+use crate::sets::set_of;
 use ot_logic::Memory;
 use ot_nodes::TermId;
 use std::alloc::{AllocError, AllocFailed, Global};
+
+/// Among so many terms, or for so many, a scan for each is short.
+const FEW: usize = 8;
 
 /// A sequent: its hypotheses, no two of them one term, and its conclusion.
 #[derive(Drop)]
@@ -48,8 +52,11 @@ impl<T: Drop> From<AllocFailed<T>> for StepFault {
     }
 }
 
-/// Those of the first list, and then those of the second that the first lacks.
-pub(crate) fn union(alloc: Global, g: &[TermId], h: &[TermId]) -> Result<Vec<TermId>, Memory>
+/// The union of two sets of terms: the first list as it is, and behind it those of the second list that the first
+/// lacks, in their order. It repeats no term where neither list does.
+///
+/// Any numbers may be given, as no table is asked. It fails only where memory runs out.
+pub fn union(alloc: Global, g: &[TermId], h: &[TermId]) -> Result<Vec<TermId>, Memory>
     ensures { IfOk result (λ v. v.items ≡ g.now ++ filter (λ t. not (list_any (λ u. nat_eq u t) g.now)) h.now) }
 {
     let more = lacking(alloc, g, h)?;
@@ -62,11 +69,30 @@ pub(crate) fn union(alloc: Global, g: &[TermId], h: &[TermId]) -> Result<Vec<Ter
 fn lacking(alloc: Global, g: &[TermId], h: &[TermId]) -> Result<Vec<TermId>, Memory>
     ensures { IfOk result (λ v. v.items ≡ filter (λ t. not (list_any (λ u. nat_eq u t) g.now)) h.now) }
 {
-    Ok(h.iter().copied().filter(|t| !g.contains(t)).collect(alloc)?)
+    if g.len() <= FEW || h.len() <= FEW {
+        return Ok(h.iter().copied().filter(|t| !g.contains(t)).collect(alloc)?);
+    }
+    lacking_by_hash(alloc, g, h)
 }
 
-/// The list without a term.
-pub(crate) fn minus(alloc: Global, t: TermId, g: &[TermId]) -> Result<Vec<TermId>, Memory>
+/// The same, by a look-up for each.
+fn lacking_by_hash(alloc: Global, g: &[TermId], h: &[TermId]) -> Result<Vec<TermId>, Memory>
+    ensures { IfOk result (λ v. v.items ≡ filter (λ t. not (list_any (λ u. nat_eq u t) g.now)) h.now) }
+{
+    let known = set_of(alloc, g)?;
+    let mut more = Vec::new(alloc);
+    for t in h {
+        if !known.contains(t) {
+            more.push(*t)?;
+        }
+    }
+    Ok(more)
+}
+
+/// The list without a term: each place of `t` is left out, and the others stay in their order.
+///
+/// Any number may be given, also one that the list lacks. It fails only where memory runs out.
+pub fn minus(alloc: Global, t: TermId, g: &[TermId]) -> Result<Vec<TermId>, Memory>
     ensures { IfOk result (λ v. v.items ≡ filter (λ u. not (nat_eq u t)) g.now) }
 {
     Ok(g.iter().copied().filter(|u| *u != t).collect(alloc)?)
@@ -74,6 +100,18 @@ pub(crate) fn minus(alloc: Global, t: TermId, g: &[TermId]) -> Result<Vec<TermId
 
 /// The members of a list, each once, at its last place.
 pub(crate) fn once_each(alloc: Global, g: &[TermId]) -> Result<Vec<TermId>, Memory>
+    ensures { IfOk result (λ v. v.items ≡ once_of g.now) }
+{
+    if g.len() <= FEW {
+        return each_by_scans(alloc, g);
+    }
+    let last_first: Vec<TermId> = g.iter().rev().copied().collect(alloc)?;
+    let known = set_of(alloc, last_first.as_slice())?;
+    Ok(known.as_slice().iter().rev().copied().collect(alloc)?)
+}
+
+/// The same, by a scan of the rest for each.
+fn each_by_scans(alloc: Global, g: &[TermId]) -> Result<Vec<TermId>, Memory>
     ensures { IfOk result (λ v. v.items ≡ once_of g.now) }
 {
     let mut once = Vec::new(alloc);

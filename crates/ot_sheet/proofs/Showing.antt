@@ -38,7 +38,6 @@ all-push : {X : Type 0} (P : X → Type 0) (xs : List X) (y : X) → All P xs �
 all-push P xs y h g = All-append P xs (y ∷ []) h (All-cons P y [] g (All-nil P))
 
 -- ---- numbers of types and terms
-
 module _ (ts : List Item) (one : IsInjective ts) where
   pub same-types : (i j : ℕ) → HasType ts i → HasType ts j → same_ty names (type_at ts i) (type_at ts j) ≡ nat_eq i j
   same-types i j g h = by (nat_eq i j) refl
@@ -85,7 +84,6 @@ module _ (ts : List Item) (one : IsInjective ts) where
       cc
 
 -- ---- one token more
-
 pub bytes-more : (us : List (Token Name)) (t : Token Name) → bytes_of us ++ token_bytes t ≡ bytes_of (us ++ t ∷ [])
 bytes-more us t = ap (λ z. bytes_of us ++ z) (sym (append-nil (token_bytes t)))
     ∙ sym (flat_map-append token_bytes us (t ∷ []))
@@ -106,13 +104,9 @@ shows-token ts max old new x t p a b c s = record {
 }
 
 -- ---- steps one after another
-
 abbrev pub Leads : List Item → Sheet → Sheet → (Log → Log) → (Log → Log) → Type 0
 Leads ts start now rest whole = (max : ℕ) (x : Log) → Shows ts max start x → (y : Log) × Shows ts max now y
     × (rest y ≡ whole x)
-
-pub leads-start : (ts : List Item) (s : Sheet) (f g : Log → Log) → ((x : Log) → f x ≡ g x) → Leads ts s s f g
-leads-start ts s f g e = λ max x h. (x, h, e x)
 
 pub leads-step : (ts : List Item) (start old new : Sheet) (f g rest whole : Log → Log) → Leads ts start old f whole
     → Moves ts old new g → ((y : Log) → f y ≡ rest (g y)) → Leads ts start new rest whole
@@ -133,7 +127,6 @@ pub moves-as : (ts : List Item) (old new : Sheet) (f g : Log → Log) → ((x : 
 moves-as ts old new f g e a = λ max x h. subst (Shows ts max new) (e x) (a max x h)
 
 -- ---- what is put
-
 pub shows-count : (ts : List Item) (max n : ℕ) (s : Sheet) (x : Log) → n ≡ s.sequents + 1 → Shows ts max s x
     → Shows ts max (record s { sequents = n }) (count_sequent x)
 shows-count ts max n s x e h = record {
@@ -232,7 +225,6 @@ type-operator-tokens ts n is x =
     ∙ ap (λ k. add_tokens (w ∷ m ∷ Number k ∷ us) x) (sym (type-counted ts is))
 
 -- ---- types one after another
-
 abbrev pub types_written : List Item → List ℕ → Log → Log
 types_written ts is = write_nodes (types_nodes (types_at ts is))
 
@@ -246,7 +238,6 @@ pub written-end : (ts : List Item) (is : List ℕ) (k : ℕ) (y : Log) → lengt
 written-end ts is k y h = ap (λ l. types_written ts l y) (drop_all k is h)
 
 -- ---- a type and a term behind their parts
-
 pub as-type : (ts : List Item) (old new : Sheet) (t u : Ty Name) → t ≡ u
     → Moves ts old new (λ x. put (type_entry u) (write_nodes (type_parts u) x))
     → Moves ts old new (λ x. put (type_entry t) (write_nodes (type_parts t) x))
@@ -338,7 +329,6 @@ term-added ts old mid new i one g e m keys a b c = λ max x h.
     subst (Shows ts max new) (sym made) shown
 
 -- ---- operands one after another
-
 abbrev pub operands_written : List Item → List code.Operand → Log → Log
 operands_written ts os = write_nodes (flat_map operand_nodes (map (operand_at ts) os))
 

@@ -1,6 +1,5 @@
 //! The sequents of the words that stand for several records.
-ghost use Rattle.std.specs.Prelude.{◌≡◌, ◌&&◌, ◌++◌, not, filter, nat_eq, Ok, IfOk};
-ghost use Rattle.std.specs.List.{list_any};
+ghost use Rattle.std.specs.Prelude.{◌≡◌, ◌&&◌, not, Ok, IfOk};
 ghost use Rattle.ot_logic.specs.Names.{Name};
 ghost use Rattle.ot_logic.specs.Naming.{names};
 ghost use Rattle.ot_logic.specs.Trees.{Sequent};
@@ -14,8 +13,7 @@ ghost use Rattle.ot_sheet.specs.Derived.{Derives, IsStatementOf, outer_equation}
 
 use ot_logic::Memory;
 use ot_nodes::{Nodes, TermId};
-use ot_rules::{Sides, Statement, StepFault, as_equation};
-use std::alloc::Global;
+use ot_rules::{Sides, Statement, StepFault, as_equation, minus, union};
 
 /// From `G |- t = u`, `u = t`, where the word isn't refused.
 pub fn sym(nodes: &mut Nodes, a: &Statement) -> Result<Statement, StepFault>
@@ -95,28 +93,4 @@ pub fn prove_hyp(nodes: &Nodes, lemma: &Statement, other: &Statement) -> Result<
         hyps,
         concl: other.concl,
     })
-}
-
-/// Those of the first list, and then those of the second that the first lacks.
-fn union(alloc: Global, g: &[TermId], h: &[TermId]) -> Result<Vec<TermId>, Memory>
-    ensures { IfOk result (λ v. v.items ≡ g.now ++ filter (λ t. not (list_any (λ u. nat_eq u t) g.now)) h.now) }
-{
-    let more = lacking(alloc, g, h)?;
-    let mut all = Vec::from_slice(alloc, g)?;
-    all.extend_from_slice(more.as_slice())?;
-    Ok(all)
-}
-
-/// Those of the second list that the first lacks.
-fn lacking(alloc: Global, g: &[TermId], h: &[TermId]) -> Result<Vec<TermId>, Memory>
-    ensures { IfOk result (λ v. v.items ≡ filter (λ t. not (list_any (λ u. nat_eq u t) g.now)) h.now) }
-{
-    Ok(h.iter().copied().filter(|t| !g.contains(t)).collect(alloc)?)
-}
-
-/// The list without a term.
-fn minus(alloc: Global, t: TermId, g: &[TermId]) -> Result<Vec<TermId>, Memory>
-    ensures { IfOk result (λ v. v.items ≡ filter (λ u. not (nat_eq u t)) g.now) }
-{
-    Ok(g.iter().copied().filter(|u| *u != t).collect(alloc)?)
 }

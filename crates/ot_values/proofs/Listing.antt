@@ -24,7 +24,6 @@ use Rattle.ot_values.specs.Lists.{ReadsAs, AreValues, AreElementsOf}
 use Rattle.ot_values.proofs.Making.{two-made}
 
 -- ---- the elements of a list
-
 pub nil-elements : (o : Origin Name) (os : Origins Name) → o ≡ Make words.Nil os → AreElementsOf o []
 nil-elements o os e =
     record { are = λ v h. (no_objects, sym (no-operands (list no_objects) os v (sym (ap value e) ∙ h)).1, tt) }
@@ -54,9 +53,6 @@ pub record Leaves (s : Session) (whole : ℕ) (found : List ℕ) (rest : ℕ) : 
       → AreElementsOf (origin_of s whole) (map (origin_of s) found ++ os)
 
 module _ (s : Session) where
-  pub leaves-none : (whole : ℕ) → Leaves s whole [] whole
-  leaves-none whole = record { behind = λ os h. h }
-
   pub leaves-cons : (whole : ℕ) (found more : List ℕ) (rest head tail : ℕ)
       → origin_of s rest ≡ make_two words.Cons (origin_of s head) (origin_of s tail) → more ≡ found ++ head ∷ []
       → Leaves s whole found rest
@@ -77,7 +73,6 @@ module _ (s : Session) where
       (h.behind [] (nil-elements _ os e))
 
 -- ---- one by one
-
 abbrev pub AreEach : {A : Type 0} → (ℕ → A → Type 0) → List ℕ → List A → Type 0
 AreEach R [] [] = Unit {0}
 AreEach R [] (x ∷ xs) = ⊥
@@ -150,7 +145,6 @@ module _ (s : Session) {A B : Type 0} (R : ℕ → A → Type 0) (as_one : Objec
   }
 
 -- ---- lists of two
-
 -- the elements of a list of two
 pub record AreTwoOf (p q : Origin Name) (v : Object) : Type 0 where
   pub first : Object

@@ -29,7 +29,7 @@ use Rattle.ot_machine.specs.Meaning.{origin_of}
 use Rattle.ot_machine.specs.declared.session.Session.{Session}
 use Rattle.ot_machine.proofs.Tops.{same-ok}
 use Rattle.ot_machine.proofs.ObjectKinds.{or_bad-is}
-use Rattle.ot_values.specs.Steps.{IsNameOf, IsTypeOf, IsVariableOf, IsTermOf}
+use Rattle.ot_values.specs.Steps.{IsNameOf, IsTypeOf, IsVariableOf}
 use Rattle.ot_values.specs.Lists.{AreElementsOf, AreEachOf, AreMapsOf, HasPair, pair_at}
 use Rattle.ot_values.specs.Reading.{IsOneOf, HasTypePair, type_pair_at, HasTermPair, term_pair_at}
 use Rattle.ot_values.specs.Reading.{with_first, add_firsts, all_first}
@@ -37,7 +37,6 @@ use Rattle.ot_values.proofs.Listing.{two-of}
 use Rattle.ot_logic.proofs.Results.{bind-ok}
 
 -- ---- a list of two
-
 abbrev two : Object → Object → Object
 two x y = list (more_objects x (more_objects y no_objects))
 
@@ -66,20 +65,7 @@ module _ (s : Session) (ts : List Item) where
         ap type_pair t.is ∙ (λ i. type_pair (two (x i) (z i)));
   }
 
-  pub term_pair-read : (step p q : ℕ) (w : VariableNode) (y : ℕ)
-      → AreElementsOf (origin_of s step) (origin_of s p ∷ origin_of s q ∷ [])
-      → IsVariableOf s ts p w → IsTermOf s ts q y → IsOneOf HasTermPair term_pair_at term_pair s ts step (w, y)
-  term_pair-read step p q w y elements a b = record {
-    has = (a.has, b.has);
-    read = λ v h.
-        let t = two-of _ _ _ v elements h in
-        let x = a.made.is t.first t.first_is in
-        let z = b.made.is t.second t.second_is in
-        ap term_pair t.is ∙ (λ i. term_pair (two (x i) (z i)));
-  }
-
 -- ---- the first pair for each key
-
 -- two lists that had one and the same, and got one more
 pub both-pushed : {X : Type 0} (old new items pushed : List X) (x : X) → new ≡ old ++ x ∷ [] → old ≡ items
     → pushed ≡ items ++ x ∷ [] → new ≡ pushed
@@ -179,7 +165,6 @@ module _ (ts : List Item) (once : IsInjective ts) where
       (rest.0, rest.1 ∙ ap (λ m. fold_terms m (term_map ts qs)) (term-first ps q h one))
 
 -- ---- the maps
-
 types-read : (m : TypeMap names) (vs : Objects) (ps : List (Name × Ty Name)) → as_each type_pair vs ≡ Ok ps
     → types_onto m vs ≡ Ok (fold_types m ps)
 types-read m no_objects ps e = ap (λ qs. Ok (fold_types m qs)) (same-ok _ _ _ refl e)

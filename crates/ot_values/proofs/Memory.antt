@@ -1,24 +1,9 @@
 -- What is remembered, with one number more.
-use Rattle.std.specs.Prelude.{◌≡◌, ℕ, Bool, true, false, cond, nat_eq, List, [], Some}
+use Rattle.std.specs.Prelude.{◌≡◌, ℕ, Bool, true, false, cond, nat_eq, List, Some}
 use Rattle.std.specs.Map.{lookup}
 use Rattle.std.proofs.Common.{refl, sym, ap, subst, ◌∙◌, eqb-true}
-use Rattle.std.proofs.lemmas.Option.{same_Some, none-some}
-use Rattle.ot_nodes.specs.Items.{Item}
-use Rattle.ot_machine.specs.declared.session.Session.{Session}
-use Rattle.ot_values.specs.Steps.{IsTypeOf, IsTermOf}
-use Rattle.ot_values.specs.Known.{AreKept, AreKnown}
-use Rattle.ot_values.specs.declared.values.Values.{Values}
-
--- nothing is remembered
-kept-none : (P : ℕ → ℕ → Type 0) (es : List (ℕ × ℕ)) → es ≡ [] → AreKept P es
-kept-none P es e = record { each = λ step id p. absurd (none-some id (sym (ap (lookup (nat_eq step)) e) ∙ p)) }
-
-pub known-none : (s : Session) (ts : List Item) (k : Values) → k.types.entries ≡ [] → k.terms.entries ≡ []
-    → AreKnown s ts k
-known-none s ts k e f = record {
-  types = kept-none (IsTypeOf s ts) k.types.entries e;
-  terms = kept-none (IsTermOf s ts) k.terms.entries f;
-}
+use Rattle.std.proofs.lemmas.Option.{same_Some}
+use Rattle.ot_values.specs.Known.{AreKept}
 
 -- one more
 pub kept-insert : (P : ℕ → ℕ → Type 0) (old new : List (ℕ × ℕ)) (k v : ℕ) → AreKept P old → P k v

@@ -11,7 +11,6 @@ ghost use Rattle.ot_values.specs.Lists.{AreElementsOf};
 use ot_logic::{Cmd, Memory};
 use ot_machine::Session;
 use ot_nodes::{NameId, Nodes};
-use ot_parse::copy_name;
 use ot_trace::{Step, StepId};
 use std::alloc::Global;
 
@@ -56,7 +55,7 @@ pub fn name(nodes: &mut Nodes, session: &Session, id: StepId) -> Result<NameId, 
 {
     match session.trace().step(id) {
         Step::Name(name) => {
-            let name = copy_name(nodes.allocator(), session.kernel().names().get(*name))?;
+            let name = session.kernel().names().get(*name).copy(nodes.allocator())?;
             nodes.name(name)
         }
         _ => Err(Memory),

@@ -1,7 +1,7 @@
 -- What assumptions, definitions and results add to a log.
 use Rattle.std.specs.List.{All, AllByRecursion, list_all}
-use Rattle.std.proofs.Common.{Result, ◌≡◌, ℕ, Bool, true, false, List, []}
-use Rattle.std.proofs.Common.{◌∷◌, ◌++◌, map, Ok, Err, sym, ap, ◌∙◌, subst}
+use Rattle.std.proofs.Common.{Result, ◌≡◌, ℕ, Bool, true, List, []}
+use Rattle.std.proofs.Common.{◌∷◌, ◌++◌, map, Ok, sym, ap, ◌∙◌, subst}
 use Rattle.std.proofs.lemmas.List.{map-append, map_push}
 use Rattle.std.proofs.lemmas.List.Elements.{All-nil, All-cons, All-push, All-append}
 use Rattle.ot_logic.specs.Names.{Name}
@@ -79,10 +79,6 @@ module _ (ts : List Item) (h : Held) (l : IsLog ts h) where
           assumptions = sym k i;
         }))
 
-    pub assumption-deep : is_sequent_within names (sequent_at ts q) ≡ false
-        → makes_assumption names (Ok (sequent_at ts q)) (state_of ts h) ≡ Err stated.LogNesting
-    assumption-deep e = assumption-by false e
-
     pub with-assumption : (hyps : List ℕ) (concl : ℕ) → HasStatement ts q → All (HasStatement ts) al
         → assumption_step names (terms_at ts hyps) (term_at ts concl) ≡ Ok (sequent_at ts q)
         → is_sequent_within names (sequent_at ts q) ≡ true
@@ -120,10 +116,6 @@ module _ (ts : List Item) (h : Held) (l : IsLog ts h) where
           definitions = map (accepted_at ts) h.definitions ++ d ∷ [];
         }))
         (ap (list_all (is_sequent_within names)) (sym has.are) ∙ e)
-
-    pub definition-deep : list_all (is_sequent_within names) (map (sequent_at ts) a.theorems.items) ≡ false
-        → makes_definition names (λ dl. Ok d) (state_of ts h) ≡ Err stated.LogNesting
-    definition-deep e = definition-by false e
 
     -- which are copied
     module _ (qs : List Statement) (same : map (sequent_at ts) qs ≡ map (sequent_at ts) a.theorems.items) where

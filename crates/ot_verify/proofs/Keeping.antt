@@ -1,25 +1,25 @@
 -- What a log is after each addition, over a table that grew.
-use Rattle.std.specs.Prelude.{◌&&◌, nat_le}
+use Rattle.std.specs.Prelude.{◌&&◌}
 use Rattle.std.specs.List.{All, list_all}
-use Rattle.std.proofs.Common.{◌≡◌, ℕ, Bool, true, false, Option, Some, List, [], ◌∷◌, ◌++◌}
-use Rattle.std.proofs.Common.{map, slice_get, Result, Ok, Err, sym, ap, ◌∙◌, subst, inl, inr}
+use Rattle.std.proofs.Common.{◌≡◌, ℕ, Bool, true, Option, Some, List, [], ◌∷◌, ◌++◌}
+use Rattle.std.proofs.Common.{map, slice_get, Result, Ok, sym, ap, ◌∙◌, subst, inl, inr}
 use Rattle.std.proofs.lemmas.Bool.{and_parts}
 use Rattle.ot_logic.specs.Names.{Name}
 use Rattle.ot_logic.specs.Naming.{names}
 use Rattle.ot_logic.specs.Lists.{IsMember}
 use Rattle.ot_logic.specs.Table.{Extends}
 use Rattle.ot_logic.specs.Trees.{Tm, Sequent}
-use Rattle.ot_logic.specs.Hol.{bool_ty, IsWellTyped, depth_ty, depth_tm, once_each}
+use Rattle.ot_logic.specs.Hol.{bool_ty, IsWellTyped, once_each}
 use Rattle.ot_logic.specs.Answers.{unless}
 use Rattle.ot_laws.specs.Theorem.{IsTheorem}
 use Rattle.ot_laws.proofs.Hypotheses.{IsMember-once_each}
 use Rattle.ot_laws.proofs.Tests.{tells_names}
 use Rattle.ot_records.specs.Tokens as stated
-use Rattle.ot_records.specs.Steps.{log_depth, is_proposition, is_sequent_within, assumption_step}
-use Rattle.ot_records.specs.State.{LogState, Change, kept_once, makes_type, makes_term}
+use Rattle.ot_records.specs.Steps.{is_proposition, is_sequent_within, assumption_step}
+use Rattle.ot_records.specs.State.{LogState, Change, kept_once}
 use Rattle.ot_records.specs.State.{makes_sequent, makes_assumption, makes_definition, makes_result}
 use Rattle.ot_records.proofs.StepSound.{proposition-is}
-use Rattle.ot_nodes.specs.Items.{Item, HasType, HasTerm, type_at, term_at}
+use Rattle.ot_nodes.specs.Items.{Item, HasTerm, term_at}
 use Rattle.ot_nodes.specs.Typing.{AreTypings}
 use Rattle.ot_nodes.specs.declared.table.typing.Scope.{Scope}
 use Rattle.ot_nodes.specs.declared.table.typing.Typed.{Typed}
@@ -39,12 +39,11 @@ use Rattle.ot_verify.specs.Logged.{LogView, MadeBy}
 use Rattle.ot_verify.specs.Held.{Held, state_of, view_of, IsAcceptable, IsWhole, Supports, Establishes}
 use Rattle.ot_verify.specs.declared.log.Log.TheInside.{Inside}
 use Rattle.ot_verify.specs.declared.log.Refusal.{Refusal}
-use Rattle.ot_verify.specs.declared.log.Refusal.TheVariants as refusals
-use Rattle.ot_verify.proofs.Adding.{sequent-typed, theorems-typed, assumption-made, assumption-deep, with-assumption}
-use Rattle.ot_verify.proofs.Adding.{definition-made, definition-deep, with-definition, result-made, with-result}
+use Rattle.ot_verify.proofs.Adding.{sequent-typed, theorems-typed, assumption-made, with-assumption}
+use Rattle.ot_verify.proofs.Adding.{definition-made, with-definition, result-made, with-result}
 use Rattle.ot_verify.proofs.Logging.{held_of, IsKept, accepted-stays, still-accepted, state-stays, log-grown}
-use Rattle.ot_verify.proofs.Logging.{log-kept, sequent-here, theorem-now, state-then, with-type, type-made, type-deep}
-use Rattle.ot_verify.proofs.Logging.{with-term, term-made, term-deep, with-sequent, sequent-made, sequent-deep}
+use Rattle.ot_verify.proofs.Logging.{log-kept, sequent-here, theorem-now, state-then}
+use Rattle.ot_verify.proofs.Logging.{with-sequent, sequent-made}
 use Rattle.ot_logic.proofs.Members.{All-from_members}
 use Rattle.ot_logic.proofs.Results.{bind-ok, same_Ok, unless-ok}
 use Rattle.std.proofs.lemmas.List.{map_push}
@@ -55,97 +54,12 @@ pub made-by : {A : Type 0} (f : A → Change names) (x y : A) (r : Result (Unit 
     → mid ≡ old → y ≡ x → MadeBy r (f y) mid new → MadeBy r (f x) old new
 made-by f x y r old mid new e s m = subst (λ z. MadeBy r (f x) z new) e (subst (λ z. MadeBy r (f z) mid new) s m)
 
--- ---- types and terms
-module _ (l : Inside) (k : IsKept l.nodes l) (now : LogView) (is : view_of l.nodes (held_of l) ≡ now) where
-  module _ (id : ℕ) (h : HasType now.items id) where
-    pub type-has : HasType l.nodes id
-    type-has = subst (λ (v : LogView). HasType v.items id) (sym is) h
-
-    pub type-kept : (xs : List ℕ) → xs ≡ l.types.items ++ id ∷ []
-        → IsWhole l.nodes (record (held_of l) { types = xs }) l.typings.known.entries l.signature l.assumptions
-        l.results
-    type-kept xs p =
-        subst
-        (λ zs. IsWhole l.nodes (record (held_of l) { types = zs }) l.typings.known.entries l.signature l.assumptions
-        l.results)
-        (sym p)
-        (record {
-          log = with-type l.nodes (held_of l) k.log id type-has;
-          typings = k.typings;
-          signature = k.signature;
-          assumptions = k.assumptions;
-          results = k.results;
-        })
-
-    type-same : type_at l.nodes id ≡ type_at now.items id
-    type-same = ap (λ (v : LogView). type_at v.items id) is
-
-    pub type-added : (xs : List ℕ) → xs ≡ l.types.items ++ id ∷ []
-        → nat_le (depth_ty names (type_at l.nodes id)) log_depth ≡ true
-        → MadeBy (Ok (tt {0})) (makes_type names (type_at now.items id))
-        now.state (state_of l.nodes (record (held_of l) { types = xs }))
-    type-added xs p e =
-        made-by (makes_type names) (type_at now.items id) (type_at l.nodes id) (Ok (tt {0}))
-        now.state (state_of l.nodes (held_of l)) _ (ap (λ (v : LogView). v.state) is) type-same
-        (type-made l.nodes (held_of l) k.log id e
-        ∙ ap (λ zs. Ok (state_of l.nodes (record (held_of l) { types = zs }))) (sym p))
-
-    pub type-refused : (new : LogState Name) → nat_le (depth_ty names (type_at l.nodes id)) log_depth ≡ false
-        → MadeBy (Err refusals.LogNesting) (makes_type names (type_at now.items id)) now.state new
-    type-refused new e =
-        made-by (makes_type names) (type_at now.items id) (type_at l.nodes id) (Err refusals.LogNesting)
-        now.state (state_of l.nodes (held_of l)) new (ap (λ (v : LogView). v.state) is) type-same
-        (type-deep l.nodes (held_of l) k.log id e)
-
-  module _ (id : ℕ) (h : HasTerm now.items id) where
-    pub term-has : HasTerm l.nodes id
-    term-has = subst (λ (v : LogView). HasTerm v.items id) (sym is) h
-
-    pub term-kept : (xs : List ℕ) → xs ≡ l.terms.items ++ id ∷ []
-        → IsWhole l.nodes (record (held_of l) { terms = xs }) l.typings.known.entries l.signature l.assumptions
-        l.results
-    term-kept xs p =
-        subst
-        (λ zs. IsWhole l.nodes (record (held_of l) { terms = zs }) l.typings.known.entries l.signature l.assumptions
-        l.results)
-        (sym p)
-        (record {
-          log = with-term l.nodes (held_of l) k.log id term-has;
-          typings = k.typings;
-          signature = k.signature;
-          assumptions = k.assumptions;
-          results = k.results;
-        })
-
-    term-same : term_at l.nodes id ≡ term_at now.items id
-    term-same = ap (λ (v : LogView). term_at v.items id) is
-
-    pub term-added : (xs : List ℕ) → xs ≡ l.terms.items ++ id ∷ []
-        → nat_le (depth_tm names (term_at l.nodes id)) log_depth ≡ true
-        → MadeBy (Ok (tt {0})) (makes_term names (term_at now.items id))
-        now.state (state_of l.nodes (record (held_of l) { terms = xs }))
-    term-added xs p e =
-        made-by (makes_term names) (term_at now.items id) (term_at l.nodes id) (Ok (tt {0}))
-        now.state (state_of l.nodes (held_of l)) _ (ap (λ (v : LogView). v.state) is) term-same
-        (term-made l.nodes (held_of l) k.log id e
-        ∙ ap (λ zs. Ok (state_of l.nodes (record (held_of l) { terms = zs }))) (sym p))
-
-    pub term-refused : (new : LogState Name) → nat_le (depth_tm names (term_at l.nodes id)) log_depth ≡ false
-        → MadeBy (Err refusals.LogNesting) (makes_term names (term_at now.items id)) now.state new
-    term-refused new e =
-        made-by (makes_term names) (term_at now.items id) (term_at l.nodes id) (Err refusals.LogNesting)
-        now.state (state_of l.nodes (held_of l)) new (ap (λ (v : LogView). v.state) is) term-same
-        (term-deep l.nodes (held_of l) k.log id e)
-
 -- ---- sequents
 module _ (l : Inside) (k : IsKept l.nodes l) (now : LogView) (is : view_of l.nodes (held_of l) ≡ now)
     (q : Statement) where
   module _ (s : Supports now (Ok q)) where
     here : Supports (view_of l.nodes (held_of l)) (Ok q)
     here = subst (λ (v : LogView). Supports v (Ok q)) (sym is) s
-
-    pub statement-has : HasStatement l.nodes q
-    statement-has = here.0
 
     pub statement-typed : AreWellTyped (sequent_at l.nodes q)
     statement-typed = sequent-typed (sequent_at l.nodes q) here.1.sequent
@@ -193,14 +107,6 @@ module _ (l : Inside) (k : IsKept l.nodes l) (now : LogView) (is : view_of l.nod
           (Ok (tt {0})) now.state (state_of us (held_of l)) _ (state-then l us now is e k) same
           (sequent-made us (held_of l) (log-grown l.nodes us e (held_of l) k.log) q (within b true p t)
           ∙ ap (λ zs. Ok (state_of us (record (held_of l) { sequents = zs }))) (sym x))
-
-      pub statement-refused : (b : Bool) (new : LogState Name) → b ≡ is_sequent_within names (sequent_at l.nodes q)
-          → b ≡ false
-          → MadeBy (Err refusals.LogNesting) (makes_sequent names (Ok (sequent_at now.items q))) now.state new
-      statement-refused b new p t =
-          made-by (λ z. makes_sequent names (Ok z)) (sequent_at now.items q) (sequent_at us q)
-          (Err refusals.LogNesting) now.state (state_of us (held_of l)) new (state-then l us now is e k) same
-          (sequent-deep us (held_of l) (log-grown l.nodes us e (held_of l) k.log) q (within b false p t))
 
 -- ---- the same lists, and what is kept beside them anew
 pub whole-same : (l : Inside) (us : List Item) (h : Held) (es : List (Scope × Option Typed)) (s : Signature)
@@ -251,9 +157,6 @@ module _ (l : Inside) (k : IsKept l.nodes l) (now : LogView) (is : view_of l.nod
       v.items)
       (sym is) g
 
-  pub assumed-has : HasStatement l.nodes q
-  assumed-has = gives.0
-
   pub assumed-typed : AreWellTyped (sequent_at l.nodes q)
   assumed-typed = step-typed (terms_at l.nodes hyps) (term_at l.nodes concl) (sequent_at l.nodes q) gives.1
 
@@ -275,13 +178,6 @@ module _ (l : Inside) (k : IsKept l.nodes l) (now : LogView) (is : view_of l.nod
     module _ (b : Bool) (p : b ≡ is_sequent_within names (sequent_at l.nodes q)) where
       assumed-within : (c : Bool) → b ≡ c → is_sequent_within names (sequent_at us q) ≡ c
       assumed-within c t = ap (is_sequent_within names) (sequent-stays l.nodes us e q gives.0) ∙ sym p ∙ t
-
-      pub assumption-refused : (new : LogState Name) → b ≡ false
-          → MadeBy (Err refusals.LogNesting) (makes_assumption names (Ok (sequent_at now.items q))) now.state new
-      assumption-refused new t =
-          made-by (λ z. makes_assumption names (Ok z)) (sequent_at now.items q) (sequent_at us q)
-          (Err refusals.LogNesting) now.state (state_of us (held_of l)) new (state-then l us now is e k) assumed-same
-          (assumption-deep us (held_of l) (log-grown l.nodes us e (held_of l) k.log) q [] (assumed-within false t))
 
       module _ (al : Kept) (xs : List Statement) (t : b ≡ true) (x : xs ≡ l.sequents.items ++ q ∷ [])
           (once : map (sequent_at us) al.statements.items
@@ -382,15 +278,6 @@ module _ (l : Inside) (k : IsKept l.nodes l) (now : LogView) (is : view_of l.nod
           ∙ sym p
           ∙ t
 
-      pub definition-refused : (new : LogState Name) → b ≡ false
-          → MadeBy (Err refusals.LogNesting)
-          (makes_definition names (λ dl. Ok (definition_at now.items a.definition))) now.state new
-      definition-refused new t =
-          made-by (λ z. makes_definition names (λ dl. Ok z)) (definition_at now.items a.definition) (accepted_at us a)
-          (Err refusals.LogNesting) now.state (state_of us (held_of l)) new (state-then l us now is e k) accepted-same
-          (definition-deep us (held_of l) (log-grown l.nodes us e (held_of l) k.log) a accepted-there
-          (accepted-within false t))
-
       module _ (t : b ≡ true) (qs : List Statement)
           (same' : map (sequent_at us) qs ≡ map (sequent_at us) a.theorems.items) (xs : List Statement)
           (ds : List Accepted) (x : xs ≡ l.sequents.items ++ qs) (y : ds ≡ l.definitions.items ++ a ∷ []) where
@@ -423,5 +310,3 @@ module _ (l : Inside) (k : IsKept l.nodes l) (now : LogView) (is : view_of l.nod
             (definition-made us (held_of l) (log-grown l.nodes us e (held_of l) k.log)
             a accepted-there qs same' (accepted-within true t)
             ∙ (λ i. Ok (state_of us (record (held_of l) { sequents = sym x i; definitions = sym y i }))))
-
--- ---- running out of memory

@@ -1,6 +1,6 @@
 -- A log whose table grows, and what is added to it.
-use Rattle.std.specs.Prelude.{◌≢◌, nat_le}
-use Rattle.std.proofs.Common.{◌≡◌, ℕ, Bool, true, false, List, [], ◌∷◌, ◌++◌, map, slice_get, Option}
+use Rattle.std.specs.Prelude.{◌≢◌}
+use Rattle.std.proofs.Common.{◌≡◌, ℕ, true, List, [], ◌∷◌, ◌++◌, map, slice_get, Option}
 use Rattle.std.proofs.Common.{Some, None, Result, Ok, Err, sym, ap, ◌∙◌, subst, zero, suc, inl, inr}
 use Rattle.std.proofs.lemmas.Option.{same_Some}
 use Rattle.std.proofs.lemmas.List.Elements.{All-nil, All-push, All-weaker}
@@ -8,12 +8,12 @@ use Rattle.ot_logic.specs.Names.{Name}
 use Rattle.ot_logic.specs.Naming.{names}
 use Rattle.ot_logic.specs.Lists.{IsMember}
 use Rattle.ot_logic.specs.Trees.{Ty, Tm, Sequent}
-use Rattle.ot_logic.specs.Hol.{depth_ty, depth_tm, theorems}
+use Rattle.ot_logic.specs.Hol.{theorems}
 use Rattle.ot_logic.specs.Answers.{◌>>=◌, unless}
 use Rattle.ot_logic.specs.Table.{Extends}
 use Rattle.ot_laws.specs.Theorem.{IsTheorem}
 use Rattle.ot_records.specs.Tokens as stated
-use Rattle.ot_records.specs.Steps.{Step, log_depth, is_sequent_within}
+use Rattle.ot_records.specs.Steps.{Step, is_sequent_within}
 use Rattle.ot_records.specs.State.{LogState, nothing_made, makes_type, makes_term, makes_sequent}
 use Rattle.ot_records.proofs.StateSound.{nothing-sound}
 use Rattle.ot_nodes.specs.Items.{Item, IsName, HasType, HasTerm, type_at, term_at}
@@ -110,73 +110,6 @@ module _ (ts us : List Item) (e : Extends ts us) (h : Held) (l : IsLog ts h) whe
 
 -- ---- what is added
 module _ (ts : List Item) (h : Held) (l : IsLog ts h) where
-  abbrev within_type : ℕ → Bool
-  within_type id = nat_le (depth_ty names (type_at ts id)) log_depth
-
-  -- a type within the limit
-  pub with-type : (id : ℕ) → HasType ts id → IsLog ts (record h { types = h.types ++ id ∷ [] })
-  with-type id has = record {
-    types = All-push (HasType ts) h.types id l.types has;
-    terms = l.terms;
-    sequents = l.sequents;
-    assumptions = l.assumptions;
-    definitions = l.definitions;
-    results = l.results;
-    sound = record {
-      sequents = l.sound.sequents;
-      assumptions = l.sound.assumptions;
-      accepted = l.sound.accepted;
-      results = l.sound.results;
-    };
-  }
-
-  pub type-made : (id : ℕ) → nat_le (depth_ty names (type_at ts id)) log_depth ≡ true
-      → makes_type names (type_at ts id) (state_of ts h) ≡ Ok (state_of ts (record h { types = h.types ++ id ∷ [] }))
-  type-made id e =
-      ap (λ b. unless stated.LogNesting b
-      >>= λ _. Ok (record (state_of ts h) { types = map (type_at ts) h.types ++ type_at ts id ∷ [] }))
-      e
-      ∙ ap (λ ys. Ok (record (state_of ts h) { types = ys })) (sym (map_push (type_at ts) h.types id))
-
-  pub type-deep : (id : ℕ) → nat_le (depth_ty names (type_at ts id)) log_depth ≡ false
-      → makes_type names (type_at ts id) (state_of ts h) ≡ Err stated.LogNesting
-  type-deep id e =
-      ap (λ b. unless stated.LogNesting b
-      >>= λ _. Ok (record (state_of ts h) { types = map (type_at ts) h.types ++ type_at ts id ∷ [] }))
-      e
-
-  -- a term within the limit
-  pub with-term : (id : ℕ) → HasTerm ts id → IsLog ts (record h { terms = h.terms ++ id ∷ [] })
-  with-term id has = record {
-    types = l.types;
-    terms = All-push (HasTerm ts) h.terms id l.terms has;
-    sequents = l.sequents;
-    assumptions = l.assumptions;
-    definitions = l.definitions;
-    results = l.results;
-    sound = record {
-      sequents = l.sound.sequents;
-      assumptions = l.sound.assumptions;
-      accepted = l.sound.accepted;
-      results = l.sound.results;
-    };
-  }
-
-  pub term-made : (id : ℕ) → nat_le (depth_tm names (term_at ts id)) log_depth ≡ true
-      → makes_term names (term_at ts id) (state_of ts h) ≡ Ok (state_of ts (record h { terms = h.terms ++ id ∷ [] }))
-  term-made id e =
-      ap (λ b. unless stated.LogNesting b
-      >>= λ _. Ok (record (state_of ts h) { terms = map (term_at ts) h.terms ++ term_at ts id ∷ [] }))
-      e
-      ∙ ap (λ ys. Ok (record (state_of ts h) { terms = ys })) (sym (map_push (term_at ts) h.terms id))
-
-  pub term-deep : (id : ℕ) → nat_le (depth_tm names (term_at ts id)) log_depth ≡ false
-      → makes_term names (term_at ts id) (state_of ts h) ≡ Err stated.LogNesting
-  term-deep id e =
-      ap (λ b. unless stated.LogNesting b
-      >>= λ _. Ok (record (state_of ts h) { terms = map (term_at ts) h.terms ++ term_at ts id ∷ [] }))
-      e
-
   -- a sequent that follows, within the limit
   pub with-sequent : (q : Statement) → HasStatement ts q
       → IsTheorem names (map (sequent_at ts) h.assumptions) (map (accepted_at ts) h.definitions) (sequent_at ts q)
@@ -211,13 +144,6 @@ module _ (ts : List Item) (h : Held) (l : IsLog ts h) where
       >>= λ _. Ok (record (state_of ts h) { sequents = map (sequent_at ts) h.sequents ++ sequent_at ts q ∷ [] }))
       e
       ∙ ap (λ ys. Ok (record (state_of ts h) { sequents = ys })) (sym (map_push (sequent_at ts) h.sequents q))
-
-  pub sequent-deep : (q : Statement) → is_sequent_within names (sequent_at ts q) ≡ false
-      → makes_sequent names (Ok (sequent_at ts q)) (state_of ts h) ≡ Err stated.LogNesting
-  sequent-deep q e =
-      ap (λ b. unless stated.LogNesting b
-      >>= λ _. Ok (record (state_of ts h) { sequents = map (sequent_at ts) h.sequents ++ sequent_at ts q ∷ [] }))
-      e
 
 -- ---- a record's change over a table that grew
 pub made-type : (t u : Ty Name) (r : Result (Unit {0}) Refusal) (old mid new : LogState Name) → mid ≡ old → u ≡ t
@@ -294,9 +220,6 @@ state-then l us now is e k = state-stays l.nodes us e (held_of l) k.log ∙ ap (
 
 -- ---- what the old tables say of an operand
 module _ (l : Inside) (now : LogView) (is : view_of l.nodes (held_of l) ≡ now) where
-  pub state-is : state_of l.nodes (held_of l) ≡ now.state
-  state-is = ap (λ (v : LogView). v.state) is
-
   pub named-here : (i : ℕ) (n : Name) → IsNamed now i n → IsName l.nodes i n
   named-here i n h = subst (λ (v : LogView). IsNamed v i n) (sym is) h
 

@@ -1,8 +1,8 @@
 -- What was found for the elements of a list, one after another.
 use Rattle.std.specs.Prelude.{IsErrAnd}
-use Rattle.std.proofs.Common.{◌≡◌, Option, Some, None, refl, Result, Ok, Err, ℕ, zero, suc, ◌+◌, ◌<◌, ◌≤◌}
+use Rattle.std.proofs.Common.{◌≡◌, Option, Some, None, refl, Result, Ok, Err, ℕ, zero, suc, ◌+◌, ◌<◌}
 use Rattle.std.proofs.Common.{List, [], ◌∷◌, ◌++◌, length, get_or, take, sym, subst, arith}
-use Rattle.std.proofs.lemmas.List.{take_more, take_all}
+use Rattle.std.proofs.lemmas.List.{take_more}
 use Rattle.ot_logic.specs.Names.{Name}
 use Rattle.ot_logic.specs.Naming.{names}
 use Rattle.ot_records.specs.State.{LogState, Change}
@@ -29,10 +29,6 @@ module _ {X Y : Type 0} (is : X → Y → Type 0) where
   each-next xs i x ys y h p a e =
       subst (λ zs. AreEach is zs (ys ++ y ∷ [])) (sym (take_more xs i x h))
       (each-push is (take i xs) ys (get_or xs i x) y a (subst (λ z. is z y) p e))
-
-  -- all of them
-  pub each-all : (xs : List X) (i : ℕ) (ys : List Y) → length xs ≤ i → AreEach is (take i xs) ys → AreEach is xs ys
-  each-all xs i ys h a = subst (λ zs. AreEach is zs ys) (take_all i xs h) a
 
   -- one that stands for nothing
   pub each-none : (xs : List X) (i : ℕ) (x : X) → i < length xs → x ≡ get_or xs i x → ((y : Y) → is x y → ⊥)

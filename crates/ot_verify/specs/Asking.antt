@@ -26,7 +26,7 @@ Answered {A} {X} st ask is (Err (verify.At line f)) old new =
 Answered st ask is (Err verify.ReadFault) old new = Unit {0}
 Answered st ask is (Err verify.Memory) old new = Unit {0}
 
--- where the source tells its bytes; one that tells them goes on to do so
+-- where the source's bytes are known; then those that are left are known too
 abbrev pub AnsweredFrom : {A X : Type 0} → LogState Name → ((A → RecordForm names) → RecordForm names)
     → (X → A → Type 0)
     → Result X VerifyFault → Reader → Reader → Option (List ℕ) → Option (List ℕ) → Type 0

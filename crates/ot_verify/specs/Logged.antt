@@ -103,7 +103,7 @@ Recorded (Err (verify.At line fault)) f first st now old new = outcome_in first 
 Recorded (Err verify.ReadFault) f first st now old new = Unit {0}
 Recorded (Err verify.Memory) f first st now old new = Unit {0}
 
--- where the source tells its bytes; one that tells them goes on to do so
+-- where the source's bytes are known; then those that are left are known too
 abbrev pub RecordedFrom : Result (Unit {0}) VerifyFault → RecordForm names → ℕ → LogState Name → LogState Name
     → Reader → Reader
     → Option (List ℕ) → Option (List ℕ) → Type 0

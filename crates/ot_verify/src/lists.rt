@@ -1,7 +1,5 @@
 //! Lists of what records ask for.
-ghost use Rattle.std.specs.Prelude.{◌≡◌, Bool, true, false, Err, IfOk};
-ghost use Rattle.ot_io.specs.Causes.{CountRose};
-ghost use Rattle.ot_io.specs.Keeping.{KeepsSource};
+ghost use Rattle.std.specs.Prelude.{◌≡◌, Bool, true, false};
 ghost use Rattle.ot_logic.specs.Names.{Name};
 ghost use Rattle.ot_logic.specs.Naming.{names};
 ghost use Rattle.ot_logic.specs.Trees.{Ty, Tm, Variable};
@@ -11,7 +9,7 @@ ghost use Rattle.ot_verify.specs.Asking.{AnsweredFrom, IsAt, AreEach};
 ghost use Rattle.ot_verify.specs.Logged.{LogView, IsNamed, IsTypePair, IsTermPair, IsConstantPair, MeetsNames};
 ghost use Rattle.ot_verify.specs.Later.{named-later, type-later, term-later};
 ghost use Rattle.ot_verify.specs.Later.{type_pair-later, term_pair-later, constant_pair-later};
-ghost use Rattle.ot_verify.specs.Going.{Advances};
+ghost use Rattle.ot_verify.specs.Going.{ReadsOn};
 
 use crate::fault::VerifyFault;
 use crate::log::Log;
@@ -50,9 +48,7 @@ pub(crate) trait Operand {
             reader.old reader.new (S.left source.old) (S.left source.new) }
         ensures meets { MeetsNames log.old log.new }
         ensures unchanged { Self.adds_names ≡ false → log.new ≡ log.old }
-        ensures advances { IfOk result (λ _. Advances reader.old reader.new) }
-        ensures cause { result ≡ Err VerifyFault.ReadFault → CountRose (S.faults source.old) (S.faults source.new) }
-        ensures kept { KeepsSource S.folder S.faults S.misses S.at source.old source.new };
+        ensures reads { ReadsOn S.folder S.faults S.misses S.at result reader.old reader.new source.old source.new };
 
     /// An item stands for the same in the log to which names were added.
     ghost later: { (old new : LogView) (x : Self.Item) (m : Self.Meaning) → MeetsNames old new
@@ -219,9 +215,7 @@ pub(crate) fn list<T: Operand, S: Source>(
         reader.old reader.new (S.left source.old) (S.left source.new) }
     ensures meets { MeetsNames log.old log.new }
     ensures unchanged { T.adds_names ≡ false → log.new ≡ log.old }
-    ensures advances { IfOk result (λ _. Advances reader.old reader.new) }
-    ensures cause { result ≡ Err VerifyFault.ReadFault → CountRose (S.faults source.old) (S.faults source.new) }
-    ensures kept { KeepsSource S.folder S.faults S.misses S.at source.old source.new }
+    ensures reads { ReadsOn S.folder S.faults S.misses S.at result reader.old reader.new source.old source.new }
 {
     let count = match reader.count(alloc, source) {
         Ok(count) => count,

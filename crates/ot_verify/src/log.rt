@@ -151,6 +151,7 @@ impl Log {
     pub(crate) fn sound(&self)
         ensures { IsProved names self.now.state }
     {
+        // What holds of each log.
         let _nodes = &self.nodes;
     }
 

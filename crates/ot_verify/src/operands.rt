@@ -1,11 +1,8 @@
 //! What records ask for: names, the numbers of earlier types, terms and sequents, and names with types.
-ghost use Rattle.std.specs.Prelude.{◌≡◌, Err, IfOk};
-ghost use Rattle.ot_io.specs.Causes.{CountRose};
-ghost use Rattle.ot_io.specs.Keeping.{KeepsSource};
 ghost use Rattle.ot_records.specs.Records.{AskName, AskType, AskTerm, AskSequent, ask_variable, ask_type_pair};
 ghost use Rattle.ot_verify.specs.Asking.{AnsweredFrom, IsAt};
 ghost use Rattle.ot_verify.specs.Logged.{IsNamed, IsVariable, IsTypePair, MeetsNames};
-ghost use Rattle.ot_verify.specs.Going.{Advances};
+ghost use Rattle.ot_verify.specs.Going.{ReadsOn};
 
 use crate::fault::VerifyFault;
 use crate::log::Log;
@@ -25,9 +22,7 @@ pub(crate) fn name_number<S: Source>(
     ensures answered { AnsweredFrom log.old.state AskName (IsNamed log.new) result
         reader.old reader.new (S.left source.old) (S.left source.new) }
     ensures meets { MeetsNames log.old log.new }
-    ensures advances { IfOk result (λ _. Advances reader.old reader.new) }
-    ensures cause { result ≡ Err VerifyFault.ReadFault → CountRose (S.faults source.old) (S.faults source.new) }
-    ensures kept { KeepsSource S.folder S.faults S.misses S.at source.old source.new }
+    ensures reads { ReadsOn S.folder S.faults S.misses S.at result reader.old reader.new source.old source.new }
 {
     match reader.name(alloc, source) {
         Ok(name) => match log.intern(name) {
@@ -47,9 +42,7 @@ pub(crate) fn type_number<S: Source>(
 ) -> Result<usize, VerifyFault>
     ensures answered { AnsweredFrom log.now.state AskType (IsAt log.now.state.types) result
         reader.old reader.new (S.left source.old) (S.left source.new) }
-    ensures advances { IfOk result (λ _. Advances reader.old reader.new) }
-    ensures cause { result ≡ Err VerifyFault.ReadFault → CountRose (S.faults source.old) (S.faults source.new) }
-    ensures kept { KeepsSource S.folder S.faults S.misses S.at source.old source.new }
+    ensures reads { ReadsOn S.folder S.faults S.misses S.at result reader.old reader.new source.old source.new }
 {
     reader.earlier(alloc, source, log.type_count())
 }
@@ -63,9 +56,7 @@ pub(crate) fn term_number<S: Source>(
 ) -> Result<usize, VerifyFault>
     ensures answered { AnsweredFrom log.now.state AskTerm (IsAt log.now.state.terms) result
         reader.old reader.new (S.left source.old) (S.left source.new) }
-    ensures advances { IfOk result (λ _. Advances reader.old reader.new) }
-    ensures cause { result ≡ Err VerifyFault.ReadFault → CountRose (S.faults source.old) (S.faults source.new) }
-    ensures kept { KeepsSource S.folder S.faults S.misses S.at source.old source.new }
+    ensures reads { ReadsOn S.folder S.faults S.misses S.at result reader.old reader.new source.old source.new }
 {
     reader.earlier(alloc, source, log.term_count())
 }
@@ -79,9 +70,7 @@ pub(crate) fn sequent_number<S: Source>(
 ) -> Result<usize, VerifyFault>
     ensures answered { AnsweredFrom log.now.state AskSequent (IsAt log.now.state.sequents) result
         reader.old reader.new (S.left source.old) (S.left source.new) }
-    ensures advances { IfOk result (λ _. Advances reader.old reader.new) }
-    ensures cause { result ≡ Err VerifyFault.ReadFault → CountRose (S.faults source.old) (S.faults source.new) }
-    ensures kept { KeepsSource S.folder S.faults S.misses S.at source.old source.new }
+    ensures reads { ReadsOn S.folder S.faults S.misses S.at result reader.old reader.new source.old source.new }
 {
     reader.earlier(alloc, source, log.sequent_count())
 }
@@ -98,9 +87,7 @@ pub(crate) fn named_type<S: Source>(
     ensures variable { AnsweredFrom log.old.state ask_variable (IsVariable log.new) result
         reader.old reader.new (S.left source.old) (S.left source.new) }
     ensures meets { MeetsNames log.old log.new }
-    ensures advances { IfOk result (λ _. Advances reader.old reader.new) }
-    ensures cause { result ≡ Err VerifyFault.ReadFault → CountRose (S.faults source.old) (S.faults source.new) }
-    ensures kept { KeepsSource S.folder S.faults S.misses S.at source.old source.new }
+    ensures reads { ReadsOn S.folder S.faults S.misses S.at result reader.old reader.new source.old source.new }
 {
     let name = name_number(alloc, log, reader, source)?;
     let ty = type_number(alloc, log, reader, source)?;

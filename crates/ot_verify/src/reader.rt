@@ -1,4 +1,4 @@
-ghost use Rattle.std.specs.Prelude.{◌≡◌, ◌<◌, ◌≤◌, ◌^◌, ℕ, length, slice_index, [], Err, IfOk, IfSome, OnOk};
+ghost use Rattle.std.specs.Prelude.{◌≡◌, ◌<◌, ◌≤◌, ◌^◌, ℕ, length, slice_index, [], Err, IfOk, IfSome};
 ghost use Rattle.ot_io.specs.Causes.{CountRose};
 ghost use Rattle.ot_io.specs.Keeping.{KeepsSource};
 ghost use Rattle.ot_records.specs.State.{LogState};
@@ -7,7 +7,7 @@ ghost use Rattle.ot_logic.specs.Names.{Name as NameValue};
 ghost use Rattle.ot_verify.specs.Reading.{token};
 ghost use Rattle.ot_verify.specs.Taking.{TakesFrom, SpendsAt, TakesText, ReadsName, stopped};
 ghost use Rattle.ot_verify.specs.Asking.{AnsweredFrom, IsValue, IsAt};
-ghost use Rattle.ot_verify.specs.Going.{HeadsFrom, BeginsFrom, Spends, Advances};
+ghost use Rattle.ot_verify.specs.Going.{HeadsFrom, BeginsFrom, Spends, Advances, ReadsOn};
 
 use crate::fault::{LogFault, VerifyFault};
 use crate::token::{Token, read_token};
@@ -82,9 +82,7 @@ impl Reader {
     ) -> Result<Name, VerifyFault>
         ensures answered { (st : LogState NameValue)
             → AnsweredFrom st AskName IsValue result self.old self.new (S.left source.old) (S.left source.new) }
-        ensures advances { IfOk result (λ _. Advances self.old self.new) }
-        ensures cause { result ≡ Err VerifyFault.ReadFault → CountRose (S.faults source.old) (S.faults source.new) }
-        ensures kept { KeepsSource S.folder S.faults S.misses S.at source.old source.new }
+        ensures reads { ReadsOn S.folder S.faults S.misses S.at result self.old self.new source.old source.new }
     {
         match self.take(alloc, source)? {
             Some(Taken::Name(name)) => Ok(name),
@@ -101,9 +99,7 @@ impl Reader {
     ) -> Result<u64, VerifyFault>
         ensures answered { (st : LogState NameValue)
             → AnsweredFrom st AskCount IsValue result self.old self.new (S.left source.old) (S.left source.new) }
-        ensures advances { IfOk result (λ _. Advances self.old self.new) }
-        ensures cause { result ≡ Err VerifyFault.ReadFault → CountRose (S.faults source.old) (S.faults source.new) }
-        ensures kept { KeepsSource S.folder S.faults S.misses S.at source.old source.new }
+        ensures reads { ReadsOn S.folder S.faults S.misses S.at result self.old self.new source.old source.new }
     {
         match self.take(alloc, source)? {
             Some(Taken::Number(number)) => Ok(number),
@@ -125,12 +121,10 @@ impl Reader {
         ensures terms { (st : LogState NameValue) → count ≡ length st.terms
             → AnsweredFrom st AskTerm (IsAt st.terms) result
             self.old self.new (S.left source.old) (S.left source.new) }
-        ensures advances { IfOk result (λ _. Advances self.old self.new) }
         ensures sequents { (st : LogState NameValue) → count ≡ length st.sequents
             → AnsweredFrom st AskSequent (IsAt st.sequents) result
             self.old self.new (S.left source.old) (S.left source.new) }
-        ensures cause { result ≡ Err VerifyFault.ReadFault → CountRose (S.faults source.old) (S.faults source.new) }
-        ensures kept { KeepsSource S.folder S.faults S.misses S.at source.old source.new }
+        ensures reads { ReadsOn S.folder S.faults S.misses S.at result self.old self.new source.old source.new }
     {
         match self.take(alloc, source)? {
             Some(Taken::Number(number)) => {
@@ -152,9 +146,7 @@ impl Reader {
         source: &mut S,
     ) -> Result<(), VerifyFault>
         ensures heads { HeadsFrom result self.old self.new (S.left source.old) (S.left source.new) }
-        ensures advances { OnOk result (Advances self.old self.new) }
-        ensures cause { result ≡ Err VerifyFault.ReadFault → CountRose (S.faults source.old) (S.faults source.new) }
-        ensures kept { KeepsSource S.folder S.faults S.misses S.at source.old source.new }
+        ensures reads { ReadsOn S.folder S.faults S.misses S.at result self.old self.new source.old source.new }
     {
         match self.take(alloc, source)? {
             Some(

@@ -1,11 +1,9 @@
 //! The records of a log: what each asks for is read, and then it makes what it makes.
-ghost use Rattle.std.specs.Prelude.{◌≡◌, Err, OnOk};
-ghost use Rattle.ot_io.specs.Causes.{CountRose};
-ghost use Rattle.ot_io.specs.Keeping.{KeepsSource};
+ghost use Rattle.std.specs.Prelude.{◌≡◌};
 ghost use Rattle.ot_logic.specs.Naming.{names};
 ghost use Rattle.ot_records.specs.Records.{form};
 ghost use Rattle.ot_verify.specs.Logged.{RecordedFrom, refused, settled_at};
-ghost use Rattle.ot_verify.specs.Going.{Advances};
+ghost use Rattle.ot_verify.specs.Going.{ReadsOn};
 
 use crate::fault::{LogFault, VerifyFault};
 use crate::lists::{TermNumber, TypeNumber, list};
@@ -29,9 +27,7 @@ pub(crate) fn take_record<S: Source>(
 ) -> Result<(), VerifyFault>
     ensures recorded { RecordedFrom result (form names word) first log.old.state log.new.state
         reader.old reader.new (S.left source.old) (S.left source.new) }
-    ensures advances { OnOk result (Advances reader.old reader.new) }
-    ensures cause { result ≡ Err VerifyFault.ReadFault → CountRose (S.faults source.old) (S.faults source.new) }
-    ensures kept { KeepsSource S.folder S.faults S.misses S.at source.old source.new }
+    ensures reads { ReadsOn S.folder S.faults S.misses S.at result reader.old reader.new source.old source.new }
 {
     match word {
         RecordWord::TyVar => type_var(alloc, log, reader, source, first),
@@ -67,9 +63,7 @@ fn bound<S: Source>(
 ) -> Result<(), VerifyFault>
     ensures recorded { RecordedFrom result (form names RecordWord.Bound) first log.old.state log.new.state
         reader.old reader.new (S.left source.old) (S.left source.new) }
-    ensures advances { OnOk result (Advances reader.old reader.new) }
-    ensures cause { result ≡ Err VerifyFault.ReadFault → CountRose (S.faults source.old) (S.faults source.new) }
-    ensures kept { KeepsSource S.folder S.faults S.misses S.at source.old source.new }
+    ensures reads { ReadsOn S.folder S.faults S.misses S.at result reader.old reader.new source.old source.new }
 {
     let place = match reader.count(alloc, source) {
         Ok(place) => place,
@@ -89,9 +83,7 @@ fn type_var<S: Source>(
 ) -> Result<(), VerifyFault>
     ensures recorded { RecordedFrom result (form names RecordWord.TyVar) first log.old.state log.new.state
         reader.old reader.new (S.left source.old) (S.left source.new) }
-    ensures advances { OnOk result (Advances reader.old reader.new) }
-    ensures cause { result ≡ Err VerifyFault.ReadFault → CountRose (S.faults source.old) (S.faults source.new) }
-    ensures kept { KeepsSource S.folder S.faults S.misses S.at source.old source.new }
+    ensures reads { ReadsOn S.folder S.faults S.misses S.at result reader.old reader.new source.old source.new }
 {
     let name = name_number(alloc, log, reader, source)?;
     let made = log.type_var(name);
@@ -108,9 +100,7 @@ fn type_op<S: Source>(
 ) -> Result<(), VerifyFault>
     ensures recorded { RecordedFrom result (form names RecordWord.TyOp) first log.old.state log.new.state
         reader.old reader.new (S.left source.old) (S.left source.new) }
-    ensures advances { OnOk result (Advances reader.old reader.new) }
-    ensures cause { result ≡ Err VerifyFault.ReadFault → CountRose (S.faults source.old) (S.faults source.new) }
-    ensures kept { KeepsSource S.folder S.faults S.misses S.at source.old source.new }
+    ensures reads { ReadsOn S.folder S.faults S.misses S.at result reader.old reader.new source.old source.new }
 {
     let name = name_number(alloc, log, reader, source)?;
     let args = list::<TypeNumber, _>(alloc, log, reader, source)?;
@@ -128,9 +118,7 @@ fn free<S: Source>(
 ) -> Result<(), VerifyFault>
     ensures recorded { RecordedFrom result (form names RecordWord.Free) first log.old.state log.new.state
         reader.old reader.new (S.left source.old) (S.left source.new) }
-    ensures advances { OnOk result (Advances reader.old reader.new) }
-    ensures cause { result ≡ Err VerifyFault.ReadFault → CountRose (S.faults source.old) (S.faults source.new) }
-    ensures kept { KeepsSource S.folder S.faults S.misses S.at source.old source.new }
+    ensures reads { ReadsOn S.folder S.faults S.misses S.at result reader.old reader.new source.old source.new }
 {
     let variable = named_type(alloc, log, reader, source)?;
     let made = log.free(variable);
@@ -147,9 +135,7 @@ fn constant_term<S: Source>(
 ) -> Result<(), VerifyFault>
     ensures recorded { RecordedFrom result (form names RecordWord.Con) first log.old.state log.new.state
         reader.old reader.new (S.left source.old) (S.left source.new) }
-    ensures advances { OnOk result (Advances reader.old reader.new) }
-    ensures cause { result ≡ Err VerifyFault.ReadFault → CountRose (S.faults source.old) (S.faults source.new) }
-    ensures kept { KeepsSource S.folder S.faults S.misses S.at source.old source.new }
+    ensures reads { ReadsOn S.folder S.faults S.misses S.at result reader.old reader.new source.old source.new }
 {
     let name = name_number(alloc, log, reader, source)?;
     let ty = type_number(alloc, log, reader, source)?;
@@ -167,9 +153,7 @@ fn app<S: Source>(
 ) -> Result<(), VerifyFault>
     ensures recorded { RecordedFrom result (form names RecordWord.App) first log.old.state log.new.state
         reader.old reader.new (S.left source.old) (S.left source.new) }
-    ensures advances { OnOk result (Advances reader.old reader.new) }
-    ensures cause { result ≡ Err VerifyFault.ReadFault → CountRose (S.faults source.old) (S.faults source.new) }
-    ensures kept { KeepsSource S.folder S.faults S.misses S.at source.old source.new }
+    ensures reads { ReadsOn S.folder S.faults S.misses S.at result reader.old reader.new source.old source.new }
 {
     let f = term_number(alloc, log, reader, source)?;
     let x = term_number(alloc, log, reader, source)?;
@@ -187,9 +171,7 @@ fn lam<S: Source>(
 ) -> Result<(), VerifyFault>
     ensures recorded { RecordedFrom result (form names RecordWord.Lam) first log.old.state log.new.state
         reader.old reader.new (S.left source.old) (S.left source.new) }
-    ensures advances { OnOk result (Advances reader.old reader.new) }
-    ensures cause { result ≡ Err VerifyFault.ReadFault → CountRose (S.faults source.old) (S.faults source.new) }
-    ensures kept { KeepsSource S.folder S.faults S.misses S.at source.old source.new }
+    ensures reads { ReadsOn S.folder S.faults S.misses S.at result reader.old reader.new source.old source.new }
 {
     let ty = type_number(alloc, log, reader, source)?;
     let body = term_number(alloc, log, reader, source)?;
@@ -207,9 +189,7 @@ fn refl<S: Source>(
 ) -> Result<(), VerifyFault>
     ensures recorded { RecordedFrom result (form names RecordWord.Refl) first log.old.state log.new.state
         reader.old reader.new (S.left source.old) (S.left source.new) }
-    ensures advances { OnOk result (Advances reader.old reader.new) }
-    ensures cause { result ≡ Err VerifyFault.ReadFault → CountRose (S.faults source.old) (S.faults source.new) }
-    ensures kept { KeepsSource S.folder S.faults S.misses S.at source.old source.new }
+    ensures reads { ReadsOn S.folder S.faults S.misses S.at result reader.old reader.new source.old source.new }
 {
     let term = term_number(alloc, log, reader, source)?;
     let made = log.refl(term);
@@ -226,9 +206,7 @@ fn assume<S: Source>(
 ) -> Result<(), VerifyFault>
     ensures recorded { RecordedFrom result (form names RecordWord.Assume) first log.old.state log.new.state
         reader.old reader.new (S.left source.old) (S.left source.new) }
-    ensures advances { OnOk result (Advances reader.old reader.new) }
-    ensures cause { result ≡ Err VerifyFault.ReadFault → CountRose (S.faults source.old) (S.faults source.new) }
-    ensures kept { KeepsSource S.folder S.faults S.misses S.at source.old source.new }
+    ensures reads { ReadsOn S.folder S.faults S.misses S.at result reader.old reader.new source.old source.new }
 {
     let term = term_number(alloc, log, reader, source)?;
     let made = log.assume(term);
@@ -245,9 +223,7 @@ fn eq_mp<S: Source>(
 ) -> Result<(), VerifyFault>
     ensures recorded { RecordedFrom result (form names RecordWord.EqMp) first log.old.state log.new.state
         reader.old reader.new (S.left source.old) (S.left source.new) }
-    ensures advances { OnOk result (Advances reader.old reader.new) }
-    ensures cause { result ≡ Err VerifyFault.ReadFault → CountRose (S.faults source.old) (S.faults source.new) }
-    ensures kept { KeepsSource S.folder S.faults S.misses S.at source.old source.new }
+    ensures reads { ReadsOn S.folder S.faults S.misses S.at result reader.old reader.new source.old source.new }
 {
     let equation = sequent_number(alloc, log, reader, source)?;
     let other = sequent_number(alloc, log, reader, source)?;
@@ -265,9 +241,7 @@ fn abs_thm<S: Source>(
 ) -> Result<(), VerifyFault>
     ensures recorded { RecordedFrom result (form names RecordWord.AbsThm) first log.old.state log.new.state
         reader.old reader.new (S.left source.old) (S.left source.new) }
-    ensures advances { OnOk result (Advances reader.old reader.new) }
-    ensures cause { result ≡ Err VerifyFault.ReadFault → CountRose (S.faults source.old) (S.faults source.new) }
-    ensures kept { KeepsSource S.folder S.faults S.misses S.at source.old source.new }
+    ensures reads { ReadsOn S.folder S.faults S.misses S.at result reader.old reader.new source.old source.new }
 {
     let variable = named_type(alloc, log, reader, source)?;
     let equation = sequent_number(alloc, log, reader, source)?;
@@ -285,9 +259,7 @@ fn app_thm<S: Source>(
 ) -> Result<(), VerifyFault>
     ensures recorded { RecordedFrom result (form names RecordWord.AppThm) first log.old.state log.new.state
         reader.old reader.new (S.left source.old) (S.left source.new) }
-    ensures advances { OnOk result (Advances reader.old reader.new) }
-    ensures cause { result ≡ Err VerifyFault.ReadFault → CountRose (S.faults source.old) (S.faults source.new) }
-    ensures kept { KeepsSource S.folder S.faults S.misses S.at source.old source.new }
+    ensures reads { ReadsOn S.folder S.faults S.misses S.at result reader.old reader.new source.old source.new }
 {
     let functions = sequent_number(alloc, log, reader, source)?;
     let arguments = sequent_number(alloc, log, reader, source)?;
@@ -305,9 +277,7 @@ fn deduct_antisym<S: Source>(
 ) -> Result<(), VerifyFault>
     ensures recorded { RecordedFrom result (form names RecordWord.DeductAntisym) first log.old.state log.new.state
         reader.old reader.new (S.left source.old) (S.left source.new) }
-    ensures advances { OnOk result (Advances reader.old reader.new) }
-    ensures cause { result ≡ Err VerifyFault.ReadFault → CountRose (S.faults source.old) (S.faults source.new) }
-    ensures kept { KeepsSource S.folder S.faults S.misses S.at source.old source.new }
+    ensures reads { ReadsOn S.folder S.faults S.misses S.at result reader.old reader.new source.old source.new }
 {
     let left = sequent_number(alloc, log, reader, source)?;
     let right = sequent_number(alloc, log, reader, source)?;
@@ -325,9 +295,7 @@ fn beta_conv<S: Source>(
 ) -> Result<(), VerifyFault>
     ensures recorded { RecordedFrom result (form names RecordWord.BetaConv) first log.old.state log.new.state
         reader.old reader.new (S.left source.old) (S.left source.new) }
-    ensures advances { OnOk result (Advances reader.old reader.new) }
-    ensures cause { result ≡ Err VerifyFault.ReadFault → CountRose (S.faults source.old) (S.faults source.new) }
-    ensures kept { KeepsSource S.folder S.faults S.misses S.at source.old source.new }
+    ensures reads { ReadsOn S.folder S.faults S.misses S.at result reader.old reader.new source.old source.new }
 {
     let term = term_number(alloc, log, reader, source)?;
     let made = log.beta_conv(term);
@@ -344,9 +312,7 @@ fn subst<S: Source>(
 ) -> Result<(), VerifyFault>
     ensures recorded { RecordedFrom result (form names RecordWord.Subst) first log.old.state log.new.state
         reader.old reader.new (S.left source.old) (S.left source.new) }
-    ensures advances { OnOk result (Advances reader.old reader.new) }
-    ensures cause { result ≡ Err VerifyFault.ReadFault → CountRose (S.faults source.old) (S.faults source.new) }
-    ensures kept { KeepsSource S.folder S.faults S.misses S.at source.old source.new }
+    ensures reads { ReadsOn S.folder S.faults S.misses S.at result reader.old reader.new source.old source.new }
 {
     let sequent = sequent_number(alloc, log, reader, source)?;
     let types = list::<NamedType, _>(alloc, log, reader, source)?;
@@ -365,9 +331,7 @@ fn assumption<S: Source>(
 ) -> Result<(), VerifyFault>
     ensures recorded { RecordedFrom result (form names RecordWord.Assumption) first log.old.state log.new.state
         reader.old reader.new (S.left source.old) (S.left source.new) }
-    ensures advances { OnOk result (Advances reader.old reader.new) }
-    ensures cause { result ≡ Err VerifyFault.ReadFault → CountRose (S.faults source.old) (S.faults source.new) }
-    ensures kept { KeepsSource S.folder S.faults S.misses S.at source.old source.new }
+    ensures reads { ReadsOn S.folder S.faults S.misses S.at result reader.old reader.new source.old source.new }
 {
     let concl = term_number(alloc, log, reader, source)?;
     let hyps = list::<TermNumber, _>(alloc, log, reader, source)?;
@@ -385,9 +349,7 @@ fn constant<S: Source>(
 ) -> Result<(), VerifyFault>
     ensures recorded { RecordedFrom result (form names RecordWord.Constant) first log.old.state log.new.state
         reader.old reader.new (S.left source.old) (S.left source.new) }
-    ensures advances { OnOk result (Advances reader.old reader.new) }
-    ensures cause { result ≡ Err VerifyFault.ReadFault → CountRose (S.faults source.old) (S.faults source.new) }
-    ensures kept { KeepsSource S.folder S.faults S.misses S.at source.old source.new }
+    ensures reads { ReadsOn S.folder S.faults S.misses S.at result reader.old reader.new source.old source.new }
 {
     let name = name_number(alloc, log, reader, source)?;
     let term = term_number(alloc, log, reader, source)?;
@@ -405,9 +367,7 @@ fn constants<S: Source>(
 ) -> Result<(), VerifyFault>
     ensures recorded { RecordedFrom result (form names RecordWord.Constants) first log.old.state log.new.state
         reader.old reader.new (S.left source.old) (S.left source.new) }
-    ensures advances { OnOk result (Advances reader.old reader.new) }
-    ensures cause { result ≡ Err VerifyFault.ReadFault → CountRose (S.faults source.old) (S.faults source.new) }
-    ensures kept { KeepsSource S.folder S.faults S.misses S.at source.old source.new }
+    ensures reads { ReadsOn S.folder S.faults S.misses S.at result reader.old reader.new source.old source.new }
 {
     let pairs = list::<ConstantPair, _>(alloc, log, reader, source)?;
     let premise = sequent_number(alloc, log, reader, source)?;
@@ -425,9 +385,7 @@ fn type_operator<S: Source>(
 ) -> Result<(), VerifyFault>
     ensures recorded { RecordedFrom result (form names RecordWord.TypeOperator) first log.old.state log.new.state
         reader.old reader.new (S.left source.old) (S.left source.new) }
-    ensures advances { OnOk result (Advances reader.old reader.new) }
-    ensures cause { result ≡ Err VerifyFault.ReadFault → CountRose (S.faults source.old) (S.faults source.new) }
-    ensures kept { KeepsSource S.folder S.faults S.misses S.at source.old source.new }
+    ensures reads { ReadsOn S.folder S.faults S.misses S.at result reader.old reader.new source.old source.new }
 {
     let name = name_number(alloc, log, reader, source)?;
     let abs = name_number(alloc, log, reader, source)?;
@@ -448,9 +406,7 @@ fn result_record<S: Source>(
 ) -> Result<(), VerifyFault>
     ensures recorded { RecordedFrom result (form names RecordWord.Result) first log.old.state log.new.state
         reader.old reader.new (S.left source.old) (S.left source.new) }
-    ensures advances { OnOk result (Advances reader.old reader.new) }
-    ensures cause { result ≡ Err VerifyFault.ReadFault → CountRose (S.faults source.old) (S.faults source.new) }
-    ensures kept { KeepsSource S.folder S.faults S.misses S.at source.old source.new }
+    ensures reads { ReadsOn S.folder S.faults S.misses S.at result reader.old reader.new source.old source.new }
 {
     let sequent = sequent_number(alloc, log, reader, source)?;
     let made = log.add_result(sequent);

@@ -71,6 +71,7 @@ impl Nodes {
         ensures first { Extends first_items self.now }
         ensures once { IsInjective self.now }
     {
+        // What holds of each table.
         let _nodes = &self.nodes;
     }
 }

@@ -1,13 +1,12 @@
-use Rattle.std.proofs.Common.{arith}
-use Rattle.std.proofs.lemmas.Grind.{common_steps}
-use Rattle.ot_rules.proofs.Numbers.{once-next}
+use mathlib.Core.List.{reverse}
+use Rattle.std.proofs.Common.{◌≡◌, ℕ, List, [], fold, nat_eq, rules, ap, ◌∙◌}
+use Rattle.indexmap.specs.IndexSet.{insert_key}
+use Rattle.ot_rules.proofs.ByHash.{once-by-set}
 use Rattle.ot_rules.proofs.statement.once_each.Goals as goal
 
-pub loop-i-preserved : goal.loop-i-preserved
-loop-i-preserved c =
-    grind (
-      arith,
-      common_steps,
-      once-next c.args.g.now c.loop-i.i c.index-g-i.result c.contains.result
-          c.loop-i-test.true c.index-g-i.is c.contains.ensures.value,
-    )
+pub returns : goal.returns
+returns c =
+    let turned : c.in_ok-last_first.last_first.items ≡ reverse c.args.g.now = search rules in
+    let back : c.in_ok-collect.field-0.items ≡ reverse c.in_ok-known.known.keys = search rules in
+    let set : List ℕ → List ℕ = λ l. fold (insert_key nat_eq) [] l in
+    back ∙ ap reverse (c.in_ok-known.ensures ∙ ap set (c.as_slice.ensures.value ∙ turned)) ∙ once-by-set c.args.g.now

@@ -23,7 +23,7 @@ records-init g c = record {
       follows-header c.args.max_bytes c.new-reader.result c.header.new.self c.new-reader.ensures
       c.in_ok-log.log.state c.in_ok-header.field-0 (g.S.Source.left c.args.source.now)
       (g.S.Source.left c.header.new.source) c.in_ok-log.ensures c.in_ok-header.ensures.heads;
-  kept = c.header.ensures.kept;
+  kept = c.header.ensures.reads.kept;
 }
 
 pub returns-in_err-word-clause-checked : goal.returns-in_err-word-clause-checked
@@ -51,7 +51,7 @@ records-preserved g c =
           c.records.reader
           c.begin.new.self c.take_record.new.reader all l m n c.records.invariant.so_far begins recorded;
       kept = KeepsSource-then c.records.invariant.kept
-          (KeepsSource-then c.begin.ensures.kept c.take_record.ensures.kept);
+          (KeepsSource-then c.begin.ensures.kept c.take_record.ensures.reads.kept);
     }
 
 pub returns-in-Err-clause-checked : goal.returns-in-Err-clause-checked

@@ -16,8 +16,8 @@ each-init g c = record {
       (c.in-Ok.ensures.answered c.args.log.now.state);
   meets = meets-nothing c.args.log.now;
   unchanged = λ _. refl;
-  advances = c.in-Ok.ensures.advances;
-  kept = c.count.ensures.kept;
+  advances = c.in-Ok.ensures.reads.advances;
+  kept = c.count.ensures.reads.kept;
 }
 
 pub each-preserved : goal.each-preserved
@@ -35,8 +35,8 @@ each-preserved g c = record {
   unchanged = λ none. c.in-Ok-read.ensures.unchanged none ∙ c.each.invariant.unchanged none;
   advances =
       advances-then c.args.reader.now c.each.reader c.read.new.reader c.each.invariant.advances
-      c.in-Ok-read.ensures.advances;
-  kept = KeepsSource-then c.each.invariant.kept c.read.ensures.kept;
+      c.in-Ok-read.ensures.reads.advances;
+  kept = KeepsSource-then c.each.invariant.kept c.read.ensures.reads.kept;
 }
 
 pub returns-in-Err-clause-answered : goal.returns-in-Err-clause-answered
