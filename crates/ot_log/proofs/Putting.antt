@@ -13,7 +13,6 @@ use Rattle.ot_nodes.specs.Changing.{variable_at, type_map, term_map}
 use Rattle.ot_nodes.specs.Typing.{AreTypings}
 use Rattle.ot_nodes.specs.declared.node.VariableNode.{VariableNode}
 use Rattle.ot_nodes.specs.declared.table.typing.Typings.{Typings}
-use Rattle.ot_nodes.proofs.TypingLemmas.{typings-grown}
 use Rattle.ot_rules.specs.Statements.{terms_at}
 use Rattle.ot_rules.specs.declared.statement.Statement.{Statement}
 use Rattle.ot_trace.specs.Origins.{Make, NoOrigins, MoreOrigins}
@@ -141,13 +140,6 @@ module _ (s : Session) (old : Writer) (w : IsWriter s old) (ts us : List Item) (
   abbrev new : Writer
   new = record old { sheet = b; nodes = us; typings = y; values = k }
 
-  abbrev mid : Writer
-  mid = record old { nodes = ts; values = k }
-
-  mid-writer : IsWriter s mid
-  mid-writer = writer-grown s old mid w e known (typings-grown old.nodes ts e old.typings.known.entries w.typings)
-      refl refl
-
   new-writer : IsWriter s new
   new-writer = writer-grown s old new w (Extends-trans e f) (known-later s ts us f k known) typed refl refl
 
@@ -258,7 +250,6 @@ module _ (s : Session) (old : Writer) (w : IsWriter s old) (ts us : List Item) (
       lower-puts words.Subst a d (list l.0) o q m h l.1 (no-list l.0) up these (r l.0 l.2)
 
   -- ---- definitions
-
   defines : (c : Cmd) (ids : List ℕ) (vs : List Object) (is : List ℕ) (qs : List Statement)
       → values (origins_of s ids) ≡ Ok vs
       → numbers_at old.places.items ids ≡ is → Defined ts us old.sheet b c vs is qs

@@ -39,7 +39,8 @@ use Rattle.ot_proof_log.specs.Checked.{run_log, IsLogOf, RunLogLaw}
 use Rattle.ot_proof_log.specs.Writing.{Written, log, write, write_definition}
 use Rattle.ot_proof_log.specs.Writing.{write_definitions, write_results, put_result}
 use Rattle.ot_log.specs.Keeping.{IsDefinable, IsNumbered}
-use Rattle.ot_log.specs.Logs.{AreLawful, HasProof, Writes, roots_in, steps_log}
+use Rattle.ot_minimise.specs.Minimised.{roots_in}
+use Rattle.ot_log.specs.Logs.{AreLawful, HasProof, Writes, steps_log}
 use Rattle.ot_log.specs.declared.writing.LogRefusal.{LogRefusal}
 use Rattle.ot_log.proofs.Placed.{naming-is, origin-tells}
 use Rattle.ot_written.proofs.Renaming.{definitions-map, roots-map}

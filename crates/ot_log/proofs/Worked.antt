@@ -30,7 +30,6 @@ use Rattle.ot_log.proofs.Valued.{has-values, has-first, has-rest}
 use Rattle.ot_log.proofs.Closed.{step-origin}
 
 -- ---- what leads to the whole: once f is done too
-
 abbrev pub Leads : Session → Writer → Writer → (Written → Written) → (Written → Written) → Type 0
 Leads s start now f whole = (max : ℕ) (x : Written) → Holds s max start x → (y : Written) × Holds s max now y
     × (f y ≡ whole x)
@@ -48,9 +47,6 @@ module _ (s : Session) where
       ap (λ l. rest s l x) (reverse-append (task.Write i ∷ []) (map task.Write is))
       ∙ rest-append (reverse (map task.Write is)) (task.Write i ∷ []) x ∙ rest-steps is (write (origin_of s i) x)
 
-  pub leads-start : (start : Writer) (f : Written → Written) → Leads s start start f f
-  leads-start start f max x h = (x, h, refl)
-
   pub leads-more : (start mid new : Writer) (whole : Written → Written) (all before after : List Task) (k : Task)
       → all ≡ before ++ k ∷ [] → Leads s start mid (rest s all) whole → Replaces s mid new before after (perform s k)
       → Leads s start new (rest s after) whole
@@ -65,7 +61,6 @@ module _ (s : Session) where
       h max x t in subst (Holds s max now) (sym (ap (λ l. rest s l a.0) e) ∙ a.2) a.1
 
   -- ---- how much is left
-
   pub total-append : (xs ys : List Task) → total s (xs ++ ys) ≡ total s xs + total s ys
   total-append [] ys = omega arith
   total-append (k ∷ xs) ys = let h = total-append xs ys in omega arith
@@ -108,18 +103,9 @@ module _ (s : Session) where
       omega (arith, p, q, r, t, u)
 
   -- ---- the tasks
-
   pub tasks-append : (xs ys : List Task) → AreTasks s xs → AreTasks s ys → AreTasks s (xs ++ ys)
   tasks-append [] ys h k = k
   tasks-append (x ∷ xs) ys h k = (h.0, tasks-append xs ys h.1 k)
-
-  pub tasks-front : (xs : List Task) (x : Task) → AreTasks s (xs ++ x ∷ []) → AreTasks s xs
-  tasks-front [] x h = tt
-  tasks-front (y ∷ xs) x h = (h.0, tasks-front xs x h.1)
-
-  pub tasks-last : (xs : List Task) (x : Task) → AreTasks s (xs ++ x ∷ []) → IsTask s x
-  tasks-last [] x h = h.0
-  tasks-last (y ∷ xs) x h = tasks-last xs x h.1
 
   pub steps-tasks : (is : List ℕ) → All (λ i. i < length s.trace) is → HasResult (values (origins_of s is))
       → AreTasks s (reverse (map task.Write is))
@@ -148,7 +134,6 @@ module _ (s : Session) where
       (steps-tasks ops l (has-values c (origins_of s ops) (subst (λ o. HasResult (value o)) e k.value))))
 
   -- ---- one task
-
   write-known : (o : Origin Name) (x : Written) (n : ℕ) → number_of o x.theorems ≡ Some n → x ≡ write o x
   write-known (Make w os) x n e = go (makes_theorem w)
     where

@@ -10,7 +10,6 @@ use Rattle.ot_machine.specs.declared.machine.Export as code
 use Rattle.ot_machine.specs.declared.session.Session.{Session}
 use Rattle.ot_entries.specs.Bytes.{bytes_of}
 use Rattle.ot_proof_log.specs.Writing.{log}
-use Rattle.ot_write.specs.declared.roots.Roots as steps
 use Rattle.ot_words.specs.Recording.{HasResult}
 use Rattle.ot_log.specs.declared.writing.LogRefusal.{LogRefusal}
 use Rattle.ot_log.specs.declared.writing.LogRefusal.TheVariants as refusals
@@ -29,10 +28,6 @@ Writes (Err refusals.TooLarge) x max old new = (new ≡ old) × (max < length x)
 Writes (Err refusals.Memory) x max old new = new ≡ old
 
 -- ---- by steps
-
--- the steps of an export's roots
-abbrev pub roots_in : code.Export → steps.Roots
-roots_in e = record { theorem = e.theorem; list = e.list; term = e.term }
 
 -- the origin of an export's theorem has a value
 abbrev pub HasProof : Session → code.Export → Type 0

@@ -7,18 +7,19 @@ ghost use Rattle.ot_sheet.specs.Sheets.{Shows};
 ghost use Rattle.std.specs.List.{All};
 ghost use Rattle.ot_machine.specs.Meaning.{export_of, origin_of, run_of, IsExportIn, IsRun};
 ghost use Rattle.ot_proof_log.specs.Checked.{run_log, IsLogOf};
-ghost use Rattle.ot_log.specs.Logs.{AreLawful, HasProof, Writes, roots_in, steps_log};
+ghost use Rattle.ot_log.specs.Logs.{AreLawful, HasProof, Writes, steps_log};
 ghost use Rattle.ot_log.specs.Keeping.{Holds, IsDefinable, IsNumbered};
 ghost use Rattle.ot_proof_log.specs.Writing.{log};
 
 use crate::writer::Writer;
 use ot_logic::Memory;
 use ot_machine::{Export, Session};
+use ot_minimise::roots_of;
 use ot_proof_log::run_log_law;
 use ot_sheet::Sheet;
 use ot_text::PrintFault;
 use ot_trace::StepId;
-use ot_write::{Roots, needed_steps};
+use ot_write::needed_steps;
 use std::alloc::Global;
 
 /// Why a log isn't written.
@@ -130,27 +131,5 @@ fn finish(sheet: Sheet, out: &mut Vec<u8>) -> Result<(), LogRefusal>
         Ok(()) => Ok(()),
         Err(PrintFault::TooLarge) => Err(LogRefusal::TooLarge),
         Err(PrintFault::Memory) => Err(LogRefusal::Memory),
-    }
-}
-
-/// The steps of the roots of exports.
-fn roots_of(alloc: Global, exports: &[Export]) -> Result<Vec<Roots>, Memory>
-    ensures { IfOk result (λ roots. roots.items ≡ map roots_in exports.now) }
-{
-    let roots = exports
-        .iter()
-        .map(|export| root_steps(export))
-        .collect(alloc)?;
-    Ok(roots)
-}
-
-/// The steps of an export's roots.
-fn root_steps(export: &Export) -> Roots
-    ensures { result ≡ roots_in export.now }
-{
-    Roots {
-        theorem: export.theorem,
-        list: export.list,
-        term: export.term,
     }
 }

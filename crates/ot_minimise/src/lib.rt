@@ -3,4 +3,4 @@
 
 mod minimising;
 
-pub use minimising::minimise;
+pub use minimising::{minimise, roots_of};

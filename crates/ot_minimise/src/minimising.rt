@@ -50,8 +50,8 @@ pub fn minimise(
     )
 }
 
-/// The steps of the roots of exports.
-fn roots_of(alloc: Global, exports: &[Export]) -> Result<Vec<Roots>, Memory>
+/// The roots of exports, as numbers of steps, in the order of the exports. It fails only where memory runs out.
+pub fn roots_of(alloc: Global, exports: &[Export]) -> Result<Vec<Roots>, Memory>
     ensures { IfOk result (λ roots. roots.items ≡ map roots_in exports.now) }
 {
     let roots = exports

@@ -11,7 +11,8 @@ use Rattle.ot_machine.specs.Lawful.{run_basis}
 use Rattle.ot_machine.specs.Meaning.{run_of, export_of, origin_of}
 use Rattle.ot_machine.specs.Writable.{IsWritable}
 use Rattle.ot_log.specs.Keeping.{IsDefinable, IsNumbered}
-use Rattle.ot_log.specs.Logs.{Writes, roots_in}
+use Rattle.ot_minimise.specs.Minimised.{roots_in}
+use Rattle.ot_log.specs.Logs.{Writes}
 use Rattle.ot_log.proofs.Whole.{lawful-definable, lawful-proofs, roots-inside, log-is, checked}
 use Rattle.ot_log.proofs.writing.write_log.Goals as goal
 use Rattle.ot_logic.proofs.Members.{All-at_member, All-from_members}
