@@ -1,7 +1,9 @@
-//! The printed texts of what a kernel has: types, terms and sequents, and the summary of a run.
+//! The printed texts of what a kernel has: types, terms and sequents, and the summary of a run; and the law that a text
+//! names one thing.
 #![tactic(auto)]
 
 mod definitions;
+mod laws;
 pub mod nodes;
 mod sequents;
 mod summary;
@@ -9,7 +11,8 @@ mod table;
 mod terms;
 mod types;
 
-pub use ot_text::{PrintFault, one_text};
+pub use laws::one_text;
+pub use ot_text::PrintFault;
 pub use sequents::sequent_text;
 pub use summary::summary_text;
 pub use table::InKernel;

@@ -26,12 +26,12 @@ use Rattle.ot_machine.specs.Writable.{IsWritable}
 use Rattle.ot_machine.specs.NamesIn.{ObjectNamed, ObjectsNamed}
 use Rattle.ot_machine.proofs.ObjectKinds.{name-is}
 use Rattle.ot_entries.specs.Entries.{Entry, AName, ASequent, type_nodes, term_nodes, operand_nodes}
-use Rattle.ot_entries.specs.Making.{IsSame}
+use Rattle.ot_entries.specs.Same.{IsSame}
 use Rattle.ot_entries.specs.Logged.{Log}
 use Rattle.ot_entries.proofs.Standing.{Stands}
 use Rattle.ot_entries.proofs.Definitions.{MakesDefinition, definition-stands, constant-feeds}
 use Rattle.ot_entries.proofs.Definitions.{constants-feeds, type_operator-feeds}
-use Rattle.ot_proof_log.specs.Checked.{IsDefinitionOf}
+use Rattle.ot_print.specs.Laws.{IsDefinitionOf}
 use Rattle.ot_proof_log.specs.Derived.{read, constant_entry, constant_pair, constants_entry}
 use Rattle.ot_proof_log.specs.Derived.{type_operator_entry, definition_entries}
 use Rattle.ot_proof_log.proofs.Kept.{IsKept}

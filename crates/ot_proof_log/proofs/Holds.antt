@@ -23,7 +23,7 @@ use Rattle.ot_machine.specs.Lawful.{IsAxiom, AreApart}
 use Rattle.ot_machine.specs.Writable.{IsWritable}
 use Rattle.ot_entries.specs.Entries.{Entry}
 use Rattle.ot_entries.specs.Logged.{write_sequents}
-use Rattle.ot_entries.specs.Making.{IsSame}
+use Rattle.ot_entries.specs.Same.{IsSame}
 use Rattle.ot_entries.proofs.Standing.{Stands}
 use Rattle.ot_entries.proofs.Several.{last-at}
 use Rattle.ot_proof_log.specs.Writing.{Written, number_of, mark}

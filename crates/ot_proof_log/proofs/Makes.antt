@@ -19,7 +19,7 @@ use Rattle.ot_machine.specs.Objects.{Object, number, name, list, type_op, a_type
 use Rattle.ot_machine.specs.Writable.{IsWritable}
 use Rattle.ot_machine.specs.NamesIn.{TyNamed, TmNamed, ObjectNamed}
 use Rattle.ot_entries.specs.Entries.{Entry, type_nodes, term_nodes, nodes_before}
-use Rattle.ot_entries.specs.Making.{IsSame}
+use Rattle.ot_entries.specs.Same.{IsSame}
 use Rattle.ot_entries.specs.Logged.{Log, write_sequents}
 use Rattle.ot_entries.proofs.Fitting.{Fits, within-fits}
 use Rattle.ot_entries.proofs.Standing.{Stands, AreWithin}

@@ -29,7 +29,8 @@ use Rattle.ot_entries.specs.Bytes.{bytes_of}
 use Rattle.ot_entries.proofs.Ending.{header-stands, stands-ends}
 use Rattle.ot_verify.specs.Reading.{log_check}
 use Rattle.ot_proof_log.specs.Writing.{Written, nothing_written, write_definitions, write_results, log}
-use Rattle.ot_proof_log.specs.Checked.{origins_made, export_roots, run_log, IsNeeded, IsSequentOf, IsLogOf, RunLogLaw}
+use Rattle.ot_print.specs.Laws.{IsSequentOf}
+use Rattle.ot_proof_log.specs.Checked.{origins_made, export_roots, run_log, IsNeeded, IsLogOf, RunLogLaw}
 use Rattle.ot_proof_log.proofs.Defining.{defining-of}
 use Rattle.ot_proof_log.proofs.Told.{header-told}
 use Rattle.ot_proof_log.proofs.Holds.{is_one, one-is, all-kept, Holds}

@@ -26,7 +26,8 @@ use Rattle.ot_laws.proofs.Hypotheses.{same_sequent-is}
 use Rattle.ot_kernel.specs.Defining.{all_defined, all_used}
 use Rattle.ot_machine.specs.States.{Made}
 use Rattle.ot_machine.specs.Rows.{definitions_of}
-use Rattle.ot_proof_log.specs.Checked.{AreSame, IsDefinitionOf}
+use Rattle.ot_print.specs.Laws.{IsDefinitionOf}
+use Rattle.ot_proof_log.specs.Checked.{AreSame}
 use Rattle.ot_logic.proofs.Members.{IsMember-cases, IsMember-left, IsMember-right}
 use Rattle.ot_logic.proofs.Results.{bind-ok, some_or-ok}
 

@@ -24,7 +24,7 @@ use Rattle.ot_machine.specs.NamesIn.{TmNamed, SequentNamed}
 use Rattle.ot_entries.specs.Entries.{term_nodes}
 use Rattle.ot_entries.specs.Expansions.{equals_at, sym_entries, trans_entries}
 use Rattle.ot_entries.specs.Expansions.{prove_hyp_entries, sym_of, trans_of, prove_hyp_of}
-use Rattle.ot_entries.specs.Making.{IsSame}
+use Rattle.ot_entries.specs.Same.{IsSame}
 use Rattle.ot_entries.specs.Logged.{Log}
 use Rattle.ot_entries.proofs.Fitting.{Fits, fits-more, sides-fit, applied-fits, sym-fits, chain-fits, discharge-fits}
 use Rattle.ot_entries.proofs.Standing.{Stands}

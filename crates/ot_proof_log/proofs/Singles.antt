@@ -27,7 +27,7 @@ use Rattle.ot_entries.specs.Entries.{Node, Operand, Count, AName, AType, ATerm}
 use Rattle.ot_entries.specs.Entries.{ASequent, type_nodes, term_nodes, operand_nodes}
 use Rattle.ot_entries.specs.Expansions.{of_term, of_two, abs_thm_entry, type_pair}
 use Rattle.ot_entries.specs.Expansions.{term_pair, subst_entry, by_text, assumption_entry}
-use Rattle.ot_entries.specs.Making.{IsSame}
+use Rattle.ot_entries.specs.Same.{IsSame}
 use Rattle.ot_entries.specs.Logged.{Log}
 use Rattle.ot_entries.proofs.Fitting.{Fits, fits-more}
 use Rattle.ot_entries.proofs.Standing.{Stands, AreWithin}

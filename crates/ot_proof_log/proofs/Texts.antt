@@ -21,7 +21,7 @@ use Rattle.ot_machine.specs.Lawful.{AreApart}
 use Rattle.ot_written.proofs.Filters.{bool_cases, any-to, any-from}
 use Rattle.ot_written.proofs.Members.{member-get, get-push}
 use Rattle.ot_entries.specs.Expansions.{put_between, with_term, by_text}
-use Rattle.ot_entries.specs.Making.{IsSame}
+use Rattle.ot_entries.specs.Same.{IsSame}
 use Rattle.ot_logic.proofs.Members.{IsMember-cases, IsMember-left, IsMember-right}
 
 -- ---- hypotheses by their texts

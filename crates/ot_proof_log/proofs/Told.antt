@@ -1,8 +1,8 @@
 -- A log whose tokens can be said: its names are of one kind, and no number is greater than its length allows.
 use Rattle.std.specs.Prelude.{if◌then◌else◌, codes}
 use Rattle.std.specs.List.{AllByRecursion}
-use Rattle.std.proofs.Common.{◌≡◌, ℕ, suc, ◌+◌, ◌≤◌, Bool, true, false, List, [], ◌∷◌, ◌++◌, map, length}
-use Rattle.std.proofs.Common.{refl, sym, ap, subst, ◌∙◌, arith, length-append, append-nil, inl, inr, ◌⊎◌}
+use Rattle.std.proofs.Common.{◌≡◌, ℕ, suc, ◌+◌, ◌≤◌, Bool, true, false, List, [], ◌∷◌, map, length}
+use Rattle.std.proofs.Common.{refl, sym, ap, subst, ◌∙◌, arith, length-append, inl, inr, ◌⊎◌}
 use Rattle.std.proofs.lemmas.List.{length-map}
 use Rattle.ot_logic.specs.Names.{Name}
 use Rattle.ot_logic.specs.Naming.{names}
@@ -57,7 +57,6 @@ module _ (P : Name → Type 0) where
   }
 
   -- ---- nodes
-
   abbrev pub IsNode : Node → Type 0
   IsNode (TypeNode (TyVar n)) = P n
   IsNode (TypeNode (TyOp n ts)) = P n
@@ -127,7 +126,6 @@ module _ (P : Name → Type 0) where
       (own-term 0 t w z h, tt)
 
   -- ---- records
-
   -- what a record of so many operands names, after so many sequents
   abbrev pub IsOperand : ℕ → ℕ → Operand → Type 0
   IsOperand s n (Count k) = k ≤ log_depth + n
@@ -171,7 +169,6 @@ module _ (P : Name → Type 0) where
       (inl (e.word, refl), map-told x n e.operands t h))
 
   -- ---- nodes that are written
-
   -- the log has grown by nodes
   pub record Grows (x y : Log) : Type 0 where
     pub told : IsTold y
@@ -244,7 +241,6 @@ module _ (P : Name → Type 0) where
       record { told = b.told; longer = omega (arith, p, q); sequents = b.sequents ∙ a.sequents }
 
   -- ---- records that are written
-
   pub record IsEntry (s : ℕ) (e : Entry) : Type 0 where
     pub nodes : AreNodes (nodes_before e)
     pub operands : AreOperands s (length e.operands) e.operands
@@ -288,7 +284,3 @@ module _ (P : Name → Type 0) where
       let p = entry-told e x t h.0 in
       sequents-told es (count_sequent (write_entry e x)) (count-told e x p)
       (subst (λ z. AreEntries (suc z) es) (sym p.sequents) h.1)
-
-  -- a record of one term
-  pub term-nodes-told : (t : Tm Name) → AreNodes (term_nodes t) → AreNodes (term_nodes t ++ [])
-  term-nodes-told t h = subst AreNodes (sym (append-nil (term_nodes t))) h

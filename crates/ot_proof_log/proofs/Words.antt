@@ -20,7 +20,7 @@ use Rattle.ot_machine.specs.Writable.{IsWritable}
 use Rattle.ot_machine.specs.NamesIn.{TmNamed, ObjectNamed, ObjectsNamed}
 use Rattle.ot_machine.proofs.ObjectKinds.{term-is}
 use Rattle.ot_entries.specs.Expansions.{of_two, subst_entry, assumption_entry}
-use Rattle.ot_entries.specs.Making.{IsSame}
+use Rattle.ot_entries.specs.Same.{IsSame}
 use Rattle.ot_entries.specs.Logged.{Log}
 use Rattle.ot_entries.proofs.Standing.{Stands}
 use Rattle.ot_entries.proofs.Sequents.{Feeds, refl-feeds, assume-feeds, beta-feeds}

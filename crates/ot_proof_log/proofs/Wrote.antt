@@ -23,7 +23,7 @@ use Rattle.ot_machine.proofs.WritableNames.{writable-version_5}
 use Rattle.ot_article.proofs.Operands.{made_of, made-of}
 use Rattle.ot_article.proofs.MadeKinds.{made_kind, kind-made}
 use Rattle.ot_entries.specs.Logged.{write_sequents}
-use Rattle.ot_entries.specs.Making.{IsSame}
+use Rattle.ot_entries.specs.Same.{IsSame}
 use Rattle.ot_proof_log.specs.Derived.{makes_theorem, read, theorem_entries}
 use Rattle.ot_proof_log.specs.Writing.{Written, number_of, numbers_of, listed, once, put_theorem, write, write_all}
 use Rattle.ot_proof_log.proofs.Kept.{IsKept}

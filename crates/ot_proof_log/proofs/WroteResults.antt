@@ -18,7 +18,8 @@ use Rattle.ot_machine.specs.Writable.{IsWritable}
 use Rattle.ot_article.proofs.FromLawful.{get-middle}
 use Rattle.ot_entries.specs.Logged.{write_entry}
 use Rattle.ot_entries.proofs.Ending.{result_of, result-stands}
-use Rattle.ot_proof_log.specs.Checked.{AreSame, IsSequentOf}
+use Rattle.ot_print.specs.Laws.{IsSequentOf}
+use Rattle.ot_proof_log.specs.Checked.{AreSame}
 use Rattle.ot_proof_log.specs.Writing.{Written, listed, result_entry, write, put_result, write_results}
 use Rattle.ot_proof_log.proofs.Told.{entry-told}
 use Rattle.ot_proof_log.proofs.Texts.{same-back, same-then, is-same, once-new}

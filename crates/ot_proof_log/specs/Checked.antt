@@ -1,11 +1,10 @@
 -- What the check of the log of a run ends with.
-use Rattle.std.specs.Prelude.{◌≡◌, ◌≤◌, ◌<◌, ◌^◌, ℕ, true, List, [], ◌∷◌, map, length}
+use Rattle.std.specs.Prelude.{◌≡◌, ◌≤◌, ◌<◌, ◌^◌, ℕ, List, [], ◌∷◌, map, length}
 use Rattle.std.specs.List.{All}
 use Rattle.ot_logic.specs.Lists.{IsMember}
 use Rattle.ot_logic.specs.Names.{Name}
 use Rattle.ot_logic.specs.Naming.{names}
-use Rattle.ot_logic.specs.Trees.{Sequent, Definition, ListDef, TyDef}
-use Rattle.ot_logic.specs.Hol.{same_sequent}
+use Rattle.ot_logic.specs.Trees.{Sequent}
 use Rattle.ot_trace.specs.Origins.{Origin}
 use Rattle.ot_trace.specs.Reach.{IsReached}
 use Rattle.ot_written.specs.Same.{same_origin}
@@ -14,6 +13,7 @@ use Rattle.std.specs.List.{filter}
 use Rattle.ot_written.specs.Written.{roots_of}
 use Rattle.ot_records.specs.State.{LogState}
 use Rattle.ot_records.specs.Check.{Ends}
+use Rattle.ot_print.specs.Laws.{IsSequentOf, IsDefinitionOf}
 use Rattle.ot_verify.specs.Reading.{log_check}
 use Rattle.ot_machine.specs.States.{Export, Given, Made, RunState}
 use Rattle.ot_machine.specs.Lawful.{IsLawfulRun, IsLawfulExport, AreApart, run_basis}
@@ -45,21 +45,11 @@ needed_made r es =
 abbrev pub IsNeeded : RunState → List Export → Given → Type 0
 IsNeeded r es g = IsMember g r.assumptions × IsReached (export_roots es) (origins_made r) g.origin
 
--- ---- one and the same, in whatever order hypotheses stand
-
+-- two lists of one length, each element of which is the same as the one at its place in the other
 abbrev pub AreSame : {A B : Type 0} → (A → B → Type 0) → List A → List B → Type 0
 AreSame Same [] [] = Unit {0}
 AreSame Same (x ∷ xs) (y ∷ ys) = Same x y × AreSame Same xs ys
 AreSame Same _ _ = ⊥
-
-abbrev pub IsSequentOf : Sequent Name → Sequent Name → Type 0
-IsSequentOf q r = same_sequent names q r ≡ true
-
-abbrev pub IsDefinitionOf : Definition Name → Definition Name → Type 0
-IsDefinitionOf (ListDef ps q) (ListDef qs r) = (ps ≡ qs) × IsSequentOf q r
-IsDefinitionOf (TyDef n abs rep vs q) (TyDef m a r ws p) = (n ≡ m) × (abs ≡ a) × (rep ≡ r) × (vs ≡ ws)
-    × IsSequentOf q p
-IsDefinitionOf d e = d ≡ e
 
 -- ---- the check
 
