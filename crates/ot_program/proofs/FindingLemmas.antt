@@ -35,29 +35,30 @@ use Rattle.ot_find.specs.Matches.{Found, matches, matches_in, MatchesAreThose, M
 use Rattle.ot_find.specs.Texts.{HasFound}
 use Rattle.ot_find.specs.declared.search.Search.{Search}
 use Rattle.ot_read.specs.Lines.{RefusedLine, at_line, term_read}
-use Rattle.ot_text.specs.Laws.{OneSequent, OneSequentInFront}
+use Rattle.ot_print.specs.Laws.{TextsNameOne}
 use Rattle.ot_program.specs.Texts.{column_line, required_line}
 use Rattle.ot_program.specs.Reply.{FindPattern, ShowReadable, FindStop, InRequired, InRun, InPattern, PackageRun}
 use Rattle.ot_program.specs.Reply.{Searched, Noted, noted, search, search_theory, package_runs, find_at, sources}
-use Rattle.ot_program.specs.Reply.{found, limits, theory_run, theory_shown, noted_at, notation, exports_of}
-use Rattle.ot_program.specs.Reply.{run_lists, stop_status, required_status, find_status, find_line, pattern_path}
+use Rattle.ot_program.specs.Reply.{is_standard, opened, found, limits, theory_run}
+use Rattle.ot_program.specs.Reply.{theory_shown, noted_at, notation, exports_of}
+use Rattle.ot_program.specs.Reply.{run_lists, required_status, find_status, find_line, pattern_path}
 use Rattle.ot_program.specs.Answer.{IsProved, IsSearchFile, OfWalk, OfPackage, IsInputStop}
-use Rattle.ot_program.specs.Answer.{IsFindStop, IsFailedPath, FailedAt, LastInput, LeavesOther}
+use Rattle.ot_program.specs.Answer.{IsFindStop, FileFailed, IsRequiredFound, IsFailedPath, LastInput, LeavesOther}
 use Rattle.ot_program.specs.Verdicts.{ran_from, ending_of, HasEnded, AtStop, AtFailure, IfEnded, IsWalkVerdict}
 use Rattle.ot_program.specs.Verdicts.{required_in, AreRequired, HasEndedWalk, HasEndedInput, HasEndedPattern}
 use Rattle.ot_program.specs.Verdicts.{HasEndedRun, HasEndedRuns, HasEndedSearch, IsPattern, runs_in}
 use Rattle.ot_program.specs.Verdicts.{HasMatches, IsSearched, AreSearched, HasSearched, FoundEndsAs, source_of}
-use Rattle.ot_program.specs.Verdicts.{IsSaid, End, Finished, Stopped, Failed, IsAnswer, IsEnd, IsPlace}
-use Rattle.ot_program.specs.Verdicts.{IsNeeded, HasCause, IsStopVerdict, IsTaskVerdict, IsVerdictOn, noted_end}
+use Rattle.ot_program.specs.Verdicts.{IsSaid, End, Finished, Stopped, Failed, IsAnswer, IsEnd, HasTaskCause}
+use Rattle.ot_program.specs.Verdicts.{HasTheoryCause, IsStopVerdict, IsTaskVerdict, IsVerdictOn, noted_end}
 use Rattle.ot_program.specs.declared.finding.Ending.{Ending}
 use Rattle.ot_program.specs.declared.finding.Ending.TheVariants as endings
 use Rattle.ot_program.specs.declared.report.Verdict.{Verdict}
 use Rattle.ot_program.specs.declared.status.Status.{Status}
-use Rattle.ot_program.specs.declared.status.Status.TheVariants.{Refused, NoFile, ReadFault}
-use Rattle.ot_program.proofs.NotedLemmas.{no_standard, failed_later, rose_later}
+use Rattle.ot_program.specs.declared.status.Status.TheVariants.{Refused, NoFile}
+use Rattle.ot_program.proofs.NotedLemmas.{no_standard, rose_later, file_later, more_path}
 use Rattle.ot_program.proofs.RunLemmas.{exports_are}
 use Rattle.ot_program.proofs.VerdictLemmas.{task_verdict}
-use Rattle.ot_program.proofs.Options.{untold, mapped, if_some}
+use Rattle.ot_program.proofs.Options.{unknown, mapped, if_some, ends_with}
 
 -- ---- answers
 
@@ -94,14 +95,14 @@ ok_all P (Ok x) h = h
 ok_all P (Err e) h = tt
 
 -- what was counted since is counted from before
-pub ended_later : {A S : Type 0} (told : Option (Result A S)) (status : S → Status)
-    (line : S → List ℕ) (Own : S → Type 0) (Failing : List ℕ → Type 0) (P Q P' Q' : Type 0)
-    → (P → P') → (Q → Q') → (v : Verdict)
-    → HasEnded told status line Own Failing P Q v → HasEnded told status line Own Failing P' Q' v
-ended_later told status line Own Failing P Q P' Q' failed missed v (AtStop s said is own cause) =
+pub ended_later : {A S : Type 0} (known : Option (Result A S)) (status : S → Status)
+    (line : S → List ℕ) (Own : S → Type 0) (F G : List ℕ → Type 0) (M N : Type 0)
+    → ((file : List ℕ) → F file → G file) → (M → N) → (v : Verdict)
+    → HasEnded known status line Own F M v → HasEnded known status line Own G N v
+ended_later known status line Own F G M N failed missed v (AtStop s said is own cause) =
     AtStop s said is own (λ none. missed (cause none))
-ended_later told status line Own Failing P Q P' Q' failed missed v (AtFailure path said has cause) =
-    AtFailure path said has (failed cause)
+ended_later known status line Own F G M N failed missed v (AtFailure path said has) =
+    AtFailure path said (failed path has)
 
 -- a verdict that was made ends it
 pub ends_by : (P Q : Verdict → Type 0) (r : Result Verdict NoMemory) → ((v : Verdict) → P v → Q v) → IfOk r P
@@ -118,7 +119,7 @@ module _ (packages path : List ℕ) (folder : Option Folder) (at : Option (List 
     (m m' f f' : ℕ) (theory : is_theory path ≡ true) where
   walk_stop : (r : Refusal) (v : Verdict) → required_status r ≡ Refused → IsSaid v Refused (required_line r)
       → IfSome folder (λ files. required files limits.theory_bytes packages path ≡ Err r)
-      → HasEndedWalk packages path folder at (CountRose f f') (CountRose m m') v
+      → HasEndedWalk packages path folder (FileFailed at f f') (CountRose m m') v
   walk_stop r v refused said is =
       AtStop r (record { status_is = said.status_is ∙ sym refused; text_is = said.text_is })
       (mapped (λ files. required files limits.theory_bytes packages path) (λ answer. answer ≡ Err r) folder is) theory
@@ -129,7 +130,7 @@ module _ (packages path : List ℕ) (folder : Option Folder) (at : Option (List 
       → HasWalkCause e m m' f f' at
       → IfSome folder (λ files. FailsAt (IsWalked files limits.theory_bytes packages path) e) → (v : Verdict)
       → IsWalkVerdict e v
-      → HasEndedWalk packages path folder at (CountRose f f') (CountRose m m') v
+      → HasEndedWalk packages path folder (FileFailed at f f') (CountRose m m') v
   walk_ended (repos.Theory p line fault) gives cause fails v said =
       walk_stop (repo.Theory (string_bytes p) line fault) v refl said gives
   walk_ended (repos.TheoryTooLarge p) gives cause fails v said =
@@ -148,7 +149,7 @@ module _ (packages path : List ℕ) (folder : Option Folder) (at : Option (List 
       (λ answer. answer ≡ Err (repo.Missing (string_bytes p))) folder gives)
       theory (λ none. cause)
   walk_ended (repos.ReadFault p) gives cause fails v said =
-      AtFailure (string_bytes p) said (theory, (fails, cause.1)) cause.0
+      AtFailure (string_bytes p) said (theory, fails, cause)
   walk_ended repos.Memory gives cause fails v said = absurd said
 
 pub are_required : (packages path : List ℕ) (folder : Option Folder) (fulls : List (List ℕ)) → is_theory path ≡ true
@@ -164,17 +165,15 @@ are_required packages path folder fulls theory is =
 -- ---- the run of the input
 
 pub input_ended : (packages path : List ℕ) (folder : Option Folder)
-    (input at : Option (List ℕ)) (P Q : Type 0) (o : Option (End Ran Stop))
+    (input : Option (List ℕ)) (I : Type 0) (F : List ℕ → Type 0) (M : Type 0) (o : Option (End Ran Stop))
     → IfSome (option_map (noted_end []) o) (IsEnd (ShowReadable packages path) folder input)
-    → IfSome (option_map (noted_end []) o) (IsPlace (ShowReadable packages path) folder at)
-    → IfSome (option_map (noted_end []) o) (HasCause stop_status P Q) → (v : Verdict) → IsSomeAnd o (IsStopVerdict v)
-    → HasEndedInput packages path folder input at P Q v
-input_ended packages path folder input at P Q None ended place cause v said = absurd said
-input_ended packages path folder input at P Q (Some (Finished r)) ended place cause v said = absurd said
-input_ended packages path folder input at P Q (Some (Stopped s)) ended place cause v said =
-    AtStop s said ended place cause
-input_ended packages path folder input at P Q (Some (Failed p)) ended place cause v said =
-    AtFailure p said place cause
+    → IfSome (option_map (noted_end []) o) (HasTaskCause (ShowReadable packages path) folder input I F M) → (v : Verdict)
+    → IsSomeAnd o (IsStopVerdict v) → HasEndedInput packages path folder input I F M v
+input_ended packages path folder input I F M None ended cause v said = absurd said
+input_ended packages path folder input I F M (Some (Finished r)) ended cause v said = absurd said
+input_ended packages path folder input I F M (Some (Stopped s)) ended cause v said =
+    AtStop s said ended cause.0 cause.1
+input_ended packages path folder input I F M (Some (Failed p)) ended cause v said = AtFailure p said cause
 
 pub input_last : (P : Type 0) (o : Option (End Ran Stop)) → IfSome (option_map (noted_end []) o) (λ _. P)
     → (v : Verdict)
@@ -191,7 +190,7 @@ pattern_ended n pattern column fault first is v said =
     let same : column - 1 + 1 ≡ column = omega (arith, first) in
     let refused : RefusedLine = record { line = 1; column = column; fault = fault } in
     AtStop refused said (ap (at_line 1) is ∙ ap (λ k. Err (record { line = 1; column = k; fault = fault })) same)
-    tt (λ none. no_file none)
+    refl (λ none. no_file none)
 
 -- ---- an item of a list, between those before and behind it
 
@@ -267,12 +266,12 @@ module _ (packages : List ℕ) where
     runs_stop front back full rs s before one = runs-append front (full ∷ back) ∙ rw (before, one) refl
 
   module _ (folder : Option Folder) where
-    told_more : (front : List (List ℕ)) (full : List ℕ) (rs : List PackageRun) (r : Ran)
+    known_more : (front : List (List ℕ)) (full : List ℕ) (rs : List PackageRun) (r : Ran)
         → IfSome (runs_in packages folder front) (λ answer. answer ≡ Ok rs)
         → IfSome folder (λ files. (theory_run packages (package_path packages full) files).answer ≡ Ok r)
         → IfSome (runs_in packages folder (front ++ full ∷ []))
         (λ answer. answer ≡ Ok (rs ++ record { name = full; ran = r } ∷ []))
-    told_more front full rs r before one = go folder before one where
+    known_more front full rs r before one = go folder before one where
       go : (o : Option Folder) → IfSome (runs_in packages o front) (λ answer. answer ≡ Ok rs)
           → IfSome o (λ files. (theory_run packages (package_path packages full) files).answer ≡ Ok r)
           → IfSome (runs_in packages o (front ++ full ∷ []))
@@ -280,12 +279,12 @@ module _ (packages : List ℕ) where
       go None before one = tt
       go (Some files) before one = runs_more files front full rs r before one
 
-    told_stop : (front back : List (List ℕ)) (full : List ℕ) (rs : List PackageRun) (s : Stop)
+    known_stop : (front back : List (List ℕ)) (full : List ℕ) (rs : List PackageRun) (s : Stop)
         → IfSome (runs_in packages folder front) (λ answer. answer ≡ Ok rs)
         → IfSome (option_map (λ files. (theory_run packages (package_path packages full) files).answer) folder)
         (λ answer. answer ≡ Err s)
         → IfSome (runs_in packages folder (front ++ full ∷ back)) (λ answer. answer ≡ Err s)
-    told_stop front back full rs s before one = go folder before one where
+    known_stop front back full rs s before one = go folder before one where
       go : (o : Option Folder) → IfSome (runs_in packages o front) (λ answer. answer ≡ Ok rs)
           → IfSome (option_map (λ files. (theory_run packages (package_path packages full) files).answer) o)
           (λ answer. answer ≡ Err s)
@@ -317,7 +316,7 @@ module _ (packages : List ℕ) where
         ap (matches p) (map-append source_of a.runs (r ∷ [])) ∙ law p (map source_of a.runs) (source_of r) in
         record {
           runs = a.runs ++ r ∷ [];
-          runs_are = told_more front full a.runs b.ran a.runs_are b.ran_is;
+          runs_are = known_more front full a.runs b.ran a.runs_are b.ran_is;
           each = map-append (λ q. q.name) a.runs (r ∷ []) ∙ ap (λ xs. xs ++ full ∷ []) a.each;
           proved =
               All-append (λ q. IsProved (run_lists q.ran)) a.runs (r ∷ []) a.proved
@@ -331,41 +330,48 @@ module _ (packages : List ℕ) where
 
     -- the run of one ends the task
     pub runs_ended : (front back : List (List ℕ)) (full : List ℕ) (p : Tm Name)
-        (old mid : Search) (at : Option (List ℕ)) (P Q P' Q' : Type 0)
-        → (P → P') → (Q → Q') → AreSearched packages front folder p old mid
-        → (v : Verdict) → HasEndedRun packages full folder at P Q v
-        → HasEndedRuns packages (front ++ full ∷ back) folder at P' Q' v
-    runs_ended front back full p old mid at P Q P' Q' failed missed a v (AtStop s said is has cause) =
-        AtStop s said (told_stop front back full a.runs s a.runs_are is) (no_texts front back full)
+        (old mid : Search) (F G : List ℕ → Type 0) (M N : Type 0)
+        → ((file : List ℕ) → F file → G file) → (M → N) → AreSearched packages front folder p old mid
+        → (v : Verdict) → HasEndedRun packages full folder F M v
+        → HasEndedRuns packages (front ++ full ∷ back) folder G N v
+    runs_ended front back full p old mid F G M N failed missed a v (AtStop s said is has cause) =
+        AtStop s said (known_stop front back full a.runs s a.runs_are is) (no_texts front back full)
         (λ none. missed (cause none))
-    runs_ended front back full p old mid at P Q P' Q' failed missed a v (AtFailure file said has cause) =
-        AtFailure file said
-        (record { full = full; among = middle_member front back full; opened = has.0; last = has.1 }) (failed cause)
+    runs_ended front back full p old mid F G M N failed missed a v (AtFailure file said has) =
+        AtFailure file said (record {
+          front = front;
+          full = full;
+          back = back;
+          among = refl;
+          runs = a.runs;
+          runs_are = a.runs_are;
+          opened = has.0;
+          fails = failed file has.1;
+        })
 
-    pub run_ended : (path full : List ℕ) (at : Option (List ℕ)) (P Q : Type 0) (o : Option (End Ran Stop))
+    pub run_ended : (path full : List ℕ) (F : List ℕ → Type 0) (M : Type 0) (o : Option (End Ran Stop))
         → path ≡ package_path packages full
         → IfSome folder (λ files. IfSome o (IsAnswer (theory_run packages path files).answer))
-        → IfSome o (IsNeeded (option_map (λ files. (theory_run packages path files).paths) folder) at)
-        → IfSome o (HasCause stop_status P Q) → (v : Verdict) → IsSomeAnd o (IsStopVerdict v)
-        → HasEndedRun packages full folder at P Q v
-    run_ended path full at P Q None same ended needed cause v said = absurd said
-    run_ended path full at P Q (Some (Finished r)) same ended needed cause v said = absurd said
-    run_ended path full at P Q (Some (Stopped s)) same ended needed cause v said =
+        → IfSome o (HasTheoryCause packages path folder F M) → (v : Verdict) → IsSomeAnd o (IsStopVerdict v)
+        → HasEndedRun packages full folder F M v
+    run_ended path full F M None same ended cause v said = absurd said
+    run_ended path full F M (Some (Finished r)) same ended cause v said = absurd said
+    run_ended path full F M (Some (Stopped s)) same ended cause v said =
         let is = subst (λ (z : List ℕ). IfSome folder (λ files. (theory_run packages z files).answer ≡ Err s)) same
         ended in
         AtStop s said
         (mapped (λ files. (theory_run packages (package_path packages full) files).answer) (λ answer. answer ≡ Err s)
         folder is)
-        tt cause
-    run_ended path full at P Q (Some (Failed file)) same ended needed cause v said =
+        tt cause.1
+    run_ended path full F M (Some (Failed file)) same ended cause v said =
         let opened = subst (λ (z : List ℕ). IfSome
         (option_map (λ files. (theory_run packages z files).paths) folder) (IsMember file))
-        same needed.0 in
+        same cause.0 in
         AtFailure file said (
           unmapped (λ files. (theory_run packages (package_path packages full) files).paths) (IsMember file) folder
               opened,
-          needed.1,
-        ) cause
+          cause.1,
+        )
 
 -- the same of a path that is the package's
 pub path_answer : (packages : List ℕ) (folder : Option Folder) (o : Option (End Ran Stop)) (path other : List ℕ)
@@ -415,16 +421,27 @@ pub last_more : {F : Type 0} (path : List ℕ) (folder : Option Folder) (at : F 
 last_more path folder at g h last (inl theory) = theory_last path folder (at h) theory
 last_more path folder at g h last (inr same) = subst (λ x. LastInput path folder (at x)) (sym same) last
 
-pub walk_last : (packages path : List ℕ) (folder : Option Folder) (at : Option (List ℕ)) (P Q : Type 0) (v : Verdict)
-    → HasEndedWalk packages path folder at P Q v → LastInput path folder at
-walk_last packages path folder at P Q v (AtStop r said is theory cause) = theory_last path folder at theory
-walk_last packages path folder at P Q v (AtFailure file said has cause) = theory_last path folder at has.0
+pub walk_last : (packages path : List ℕ) (folder : Option Folder) (at : Option (List ℕ)) (F : List ℕ → Type 0)
+    (M : Type 0) (v : Verdict)
+    → HasEndedWalk packages path folder F M v → LastInput path folder at
+walk_last packages path folder at F M v (AtStop r said is theory cause) = theory_last path folder at theory
+walk_last packages path folder at F M v (AtFailure file said has) = theory_last path folder at has.0
 
 theory_stop : (path : List ℕ) (s : Stop) → is_theory path ≡ true → IsInputStop path s
 theory_stop path s theory = rw theory tt
 
-theory_failed : (path : List ℕ) (i j f g : ℕ) → is_theory path ≡ true → CountRose f g → FailedAt path i j f g
-theory_failed path i j f g theory rose = rw (no_standard path theory) rose
+-- the run of the input is needed
+searchable : (packages path : List ℕ) (folder : Option Folder) (fulls : List (List ℕ))
+    → AreRequired packages path folder fulls → IsRequiredFound packages path folder
+searchable packages path folder fulls (inl theory) =
+    rw theory.0 (ends_with fulls (required_in packages path folder) theory.1)
+searchable packages path folder fulls (inr article) = rw article.0 tt
+
+none_required : (packages path : List ℕ) (folder : Option Folder) (fulls : List (List ℕ))
+    → AreRequired packages path folder fulls → is_theory path ≡ false → fulls ≡ []
+none_required packages path folder fulls (inl theory) article =
+    let no : true ≡ false = sym theory.0 ∙ article in absurd cc
+none_required packages path folder fulls (inr none) article = none.1
 
 no_runs : (rs : List PackageRun) (fulls : List (List ℕ)) → map (λ p. p.name) rs ≡ fulls → fulls ≡ [] → rs ≡ []
 no_runs [] fulls each none = refl
@@ -472,10 +489,10 @@ module _ (packages pattern path : List ℕ) (folder : Option Folder) (input : Op
         (next r (λ fs. Ok []) n runs))
         ran)
 
-    told_search : AreRequired packages path folder fulls → IfSome (noted_at packages path folder input) N
+    known_search : AreRequired packages path folder fulls → IfSome (noted_at packages path folder input) N
         → IfSome (runs_in packages folder fulls) R → (fulls ≡ [] → R (Ok []))
         → IfSome (find_at packages pattern path folder input) P
-    told_search required ran runs none = go (is_theory path) refl required where
+    known_search required ran runs none = go (is_theory path) refl required where
       go : (b : Bool) → is_theory path ≡ b → AreRequired packages path folder fulls
           → IfSome (if b then option_map (search_theory packages pattern path) folder
           else option_map (λ ran. search pattern (Ok []) ran (λ fs. Ok [])) (noted_at packages path folder input))
@@ -489,21 +506,21 @@ module _ (packages pattern path : List ℕ) (folder : Option Folder) (input : Op
     run_stop : (s : Stop) → IfSome (noted_at packages path folder input) (λ answer. answer ≡ Err s)
         → IfSome (find_at packages pattern path folder input) (λ answer. answer ≡ Err (InRun s))
     run_stop s is =
-        told_search fulls (λ answer. answer ≡ Err s) (λ answer. Unit {0}) (λ answer. answer ≡ Err (InRun s))
-        (λ ran runs n r. rw n refl) required is (untold (runs_in packages folder fulls)) (λ none. tt)
+        known_search fulls (λ answer. answer ≡ Err s) (λ answer. Unit {0}) (λ answer. answer ≡ Err (InRun s))
+        (λ ran runs n r. rw n refl) required is (unknown (runs_in packages folder fulls)) (λ none. tt)
 
     module _ (n : Noted) (ran : IfSome (noted_at packages path folder input) (λ answer. answer ≡ Ok n)) where
       pattern_stop : (r : RefusedLine) → at_line 1 (term_read (notation n) pattern) ≡ Err r
           → IfSome (find_at packages pattern path folder input) (λ answer. answer ≡ Err (InPattern r))
       pattern_stop r is =
-          told_search fulls (λ answer. answer ≡ Ok n) (λ answer. Unit {0}) (λ answer. answer ≡ Err (InPattern r))
-          (λ x runs e u. rw (e, is) refl) required ran (untold (runs_in packages folder fulls)) (λ none. tt)
+          known_search fulls (λ answer. answer ≡ Ok n) (λ answer. Unit {0}) (λ answer. answer ≡ Err (InPattern r))
+          (λ x runs e u. rw (e, is) refl) required ran (unknown (runs_in packages folder fulls)) (λ none. tt)
 
       module _ (p : Tm Name) (reads : term_read (notation n) pattern ≡ Ok p) where
         runs_stop_search : (s : Stop) → fulls ≢ [] → IfSome (runs_in packages folder fulls) (λ answer. answer ≡ Err s)
             → IfSome (find_at packages pattern path folder input) (λ answer. answer ≡ Err (InRun s))
         runs_stop_search s some is =
-            told_search fulls (λ answer. answer ≡ Ok n) (λ answer. answer ≡ Err s) (λ answer. answer ≡ Err (InRun s))
+            known_search fulls (λ answer. answer ≡ Ok n) (λ answer. answer ≡ Err s) (λ answer. answer ≡ Err (InRun s))
             (λ x runs e u. rw (e, reads, u) refl) required ran is (λ none. absurd (some none))
 
         search_ends : (rs : List PackageRun) → map (λ q. q.name) rs ≡ fulls
@@ -511,71 +528,76 @@ module _ (packages pattern path : List ℕ) (folder : Option Folder) (input : Op
             → IfSome (find_at packages pattern path folder input)
             (λ answer. answer ≡ Ok (record { noted = n; pattern = p; packages = rs }))
         search_ends rs each is =
-            told_search fulls (λ answer. answer ≡ Ok n) (λ answer. answer ≡ Ok rs)
+            known_search fulls (λ answer. answer ≡ Ok n) (λ answer. answer ≡ Ok rs)
             (λ answer. answer ≡ Ok (record { noted = n; pattern = p; packages = rs }))
             (λ x runs e u. rw (e, reads, u) refl) required ran is (λ none. ap Ok (sym (no_runs rs fulls each none)))
 
   -- ---- what ends its parts ends it
 
-  pub walk_ends : (at : Option (List ℕ)) (m m' f f' i j : ℕ) (v : Verdict)
-      → HasEndedWalk packages path folder at (CountRose f f') (CountRose m m') v
-      → HasEndedSearch packages pattern path folder input at (FailedAt path i j f f') (CountRose m m') v
-  walk_ends at m m' f f' i j v (AtStop r said is theory cause) =
+  pub walk_ends : (I : Type 0) (F : List ℕ → Type 0) (M : Type 0) (v : Verdict)
+      → HasEndedWalk packages path folder F M v
+      → HasEndedSearch packages pattern path folder input I F M v
+  walk_ends I F M v (AtStop r said is theory cause) =
       AtStop (InRequired r) said (required_stop r theory is) theory cause
-  walk_ends at m m' f f' i j v (AtFailure file said has cause) =
+  walk_ends I F M v (AtFailure file said has) =
       AtFailure file said (inr (
         has.0,
         if_some (λ files. IsWalked files limits.theory_bytes packages path file)
-            (λ files. IsSearchFile packages path files file) folder (λ files walked. OfWalk file walked) has.1.0,
-        has.1.1,
-      )) (theory_failed path i j f f' has.0 cause)
+            (λ files. IsSearchFile packages pattern path files file) folder (λ files walked. OfWalk file walked) has.1,
+        has.2,
+      ))
 
   module _ (fulls : List (List ℕ)) (required : AreRequired packages path folder fulls) where
-    pub input_ends : (at : Option (List ℕ)) (P Q P' Q' : Type 0) → (P → P') → (Q → Q') → (v : Verdict)
-        → HasEndedInput packages path folder input at P Q v
-        → HasEndedSearch packages pattern path folder input at P' Q' v
-    input_ends at P Q P' Q' failed missed v (AtStop s said is own cause) =
-        AtStop (InRun s) said (run_stop fulls required s is) own (λ none. missed (cause none))
-    input_ends at P Q P' Q' failed missed v (AtFailure file said has cause) =
-        AtFailure file said (inl has) (failed cause)
+    pub input_ends : (I : Type 0) (F : List ℕ → Type 0) (M : Type 0) (v : Verdict)
+        → HasEndedInput packages path folder input I F M v
+        → HasEndedSearch packages pattern path folder input I F M v
+    input_ends I F M v (AtStop s said is own cause) = AtStop (InRun s) said (run_stop fulls required s is) own cause
+    input_ends I F M v (AtFailure file said has) =
+        AtFailure file said (inl (has, searchable packages path folder fulls required))
 
     module _ (n : Noted) (ran : IfSome (noted_at packages path folder input) (λ answer. answer ≡ Ok n)) where
-      pub pattern_ends : (at : Option (List ℕ)) (P Q : Type 0) (v : Verdict) → HasEndedPattern n pattern v
-          → HasEndedSearch packages pattern path folder input at P Q v
-      pattern_ends at P Q v (AtStop r said is own cause) =
-          AtStop (InPattern r) said (pattern_stop fulls required n ran r is) tt (λ none. no_file none)
-      pattern_ends at P Q v (AtFailure file said has cause) = absurd has
+      pub pattern_ends : (I : Type 0) (F : List ℕ → Type 0) (M : Type 0) (v : Verdict) → HasEndedPattern n pattern v
+          → HasEndedSearch packages pattern path folder input I F M v
+      pattern_ends I F M v (AtStop r said is own cause) =
+          AtStop (InPattern r) said (pattern_stop fulls required n ran r is) own (λ none. no_file none)
+      pattern_ends I F M v (AtFailure file said has) = absurd has
 
-      pub runs_end : (p : Tm Name) → IsPattern n pattern p → (at : Option (List ℕ)) (m m' M f f' F i j : ℕ)
-          → (CountRose f f' → CountRose F f') → (CountRose m m' → CountRose M m') → (v : Verdict)
-          → HasEndedRuns packages fulls folder at (CountRose f f') (CountRose m m') v
-          → HasEndedSearch packages pattern path folder input at (FailedAt path i j F f') (CountRose M m') v
-      runs_end p is_p at m m' M f f' F i j failed missed v ended = go required v ended where
-        of_package : (o : Option Folder) (file full : List ℕ)
-            → IfSome (required_in packages path o) (λ answer. answer ≡ Ok fulls)
-            → IsMember full fulls
+      pub runs_end : (p : Tm Name) → IsPattern n pattern p → (I : Type 0) (F : List ℕ → Type 0) (M : Type 0)
+          (v : Verdict)
+          → HasEndedRuns packages fulls folder F M v
+          → HasEndedSearch packages pattern path folder input I F M v
+      runs_end p is_p I F M v ended = go required v ended where
+        of_package : (o : Option Folder) (file full : List ℕ) (front back : List (List ℕ)) (rs : List PackageRun)
+            → is_theory path ≡ true → IfSome (required_in packages path o) (λ answer. answer ≡ Ok fulls)
+            → fulls ≡ front ++ full ∷ back → IfSome (noted_at packages path o input) (λ answer. answer ≡ Ok n)
+            → IfSome (runs_in packages o front) (λ answer. answer ≡ Ok rs)
             → IfSome o (λ files. IsMember file (theory_run packages (package_path packages full) files).paths)
-            → IfSome o (λ files. IsSearchFile packages path files file)
-        of_package None file full is among opened = tt
-        of_package (Some files) file full is among opened = OfPackage file full fulls is among opened
-
-        in_none : (full : List ℕ) → IsMember full fulls → fulls ≡ [] → ⊥
-        in_none full among none = subst (IsMember full) none among
+            → IfSome o (λ files. IsSearchFile packages pattern path files file)
+        of_package None file full front back rs theory is among run runs opened = tt
+        of_package (Some files) file full front back rs theory is among run runs opened =
+            let ended : noted (theory_shown path files).answer (theory_run packages path files).answer ≡ Ok n =
+            rw (no_standard path theory, theory) at run in
+            OfPackage file full front back n p rs (is ∙ ap Ok among) ended is_p.is_read runs opened
 
         go : AreRequired packages path folder fulls → (v : Verdict)
-            → HasEndedRuns packages fulls folder at (CountRose f f') (CountRose m m') v
-            → HasEndedSearch packages pattern path folder input at (FailedAt path i j F f') (CountRose M m') v
+            → HasEndedRuns packages fulls folder F M v
+            → HasEndedSearch packages pattern path folder input I F M v
         go (inl theory) v (AtStop s said is some cause) =
             AtStop (InRun s) said (runs_stop_search fulls required n ran p is_p.is_read s some is)
-            (theory_stop path s theory.0) (λ none. missed (cause none))
-        go (inl theory) v (AtFailure file said has cause) =
+            (theory_stop path s theory.0) cause
+        go (inl theory) v (AtFailure file said has) =
             AtFailure file said
-            (inr (theory.0, of_package folder file has.full theory.1 has.among has.opened, has.last))
-            (theory_failed path i j F f' theory.0 (failed cause))
+            (inr (
+              theory.0,
+              of_package folder file has.full has.front has.back has.runs theory.0 theory.1 has.among ran has.runs_are
+                  has.opened,
+              has.fails,
+            ))
         go (inr article) v (AtStop s said is some cause) = absurd (some article.1)
-        go (inr article) v (AtFailure file said has cause) = absurd (in_none has.full has.among article.1)
+        go (inr article) v (AtFailure file said has) =
+            absurd (no_texts has.front has.back has.full (sym has.among ∙ article.1))
 
-      -- it came to its end
+      -- it ended with its matches
       pub has_searched : MatchesAreThose → MatchesOfOneMore → (p : Tm Name) → IsPattern n pattern p
           → (start mid end : Search)
           → IsProved (run_lists n.ran) → HasMatches start []
@@ -592,6 +614,8 @@ module _ (packages pattern path : List ℕ) (folder : Option Folder) (input : Op
               reads = is_p.reads;
               matches_are = (those p (sources path made) (found path made)).1 refl;
               proved = a.proved;
+              none = λ article.
+                  no_runs a.runs fulls a.each (none_required packages path folder fulls required article);
             };
             found =
                 subst (HasMatches end)
@@ -602,61 +626,72 @@ module _ (packages pattern path : List ℕ) (folder : Option Folder) (input : Op
   -- ---- its verdict
 
   -- an end that the verdict is on
-  pub record HasEnd (at : Option (List ℕ)) (P Q : Type 0) (v : Verdict) : Type 0 where
+  pub record HasEnd (I : Type 0) (F : List ℕ → Type 0) (M : Type 0) (v : Verdict) : Type 0 where
     pub end : End Searched FindStop
     pub on : IsVerdictOn (FindPattern packages pattern path) v end
-    pub told : IsEnd (FindPattern packages pattern path) folder input end
-    pub place : IsPlace (FindPattern packages pattern path) folder at end
-    pub cause : HasCause find_status P Q end
+    pub known : IsEnd (FindPattern packages pattern path) folder input end
+    pub cause : HasTaskCause (FindPattern packages pattern path) folder input I F M end
 
-  pub ended_end : (at : Option (List ℕ)) (P Q : Type 0) (v : Verdict)
-      → HasEndedSearch packages pattern path folder input at P Q v
-      → HasEnd at P Q v
-  ended_end at P Q v (AtStop s said is own cause) =
-      record { end = Stopped s; on = said; told = is; place = own; cause = cause }
-  ended_end at P Q v (AtFailure file said has cause) = record {
+  pub ended_end : (I : Type 0) (F : List ℕ → Type 0) (M : Type 0) (v : Verdict)
+      → HasEndedSearch packages pattern path folder input I F M v
+      → HasEnd I F M v
+  ended_end I F M v (AtStop s said is own cause) =
+      record { end = Stopped s; on = said; known = is; cause = (own, cause) }
+  ended_end I F M v (AtFailure file said has) = record {
     end = Failed file;
     on = said;
-    told = untold (find_at packages pattern path folder input);
-    place = has;
-    cause = cause;
+    known = unknown (find_at packages pattern path folder input);
+    cause = has;
   }
 
-  pub found_end : (at : Option (List ℕ)) (P Q : Type 0) (search : Search)
+  pub found_end : (I : Type 0) (F : List ℕ → Type 0) (M : Type 0) (search : Search)
       (h : HasSearched packages pattern path folder input search)
-      → OneSequent → OneSequentInFront → (v : Verdict)
-      → FoundEndsAs path (found path h.made) v → HasEnd at P Q v
-  found_end at P Q search h one front v ends = record {
+      → TextsNameOne → (v : Verdict)
+      → FoundEndsAs path (found path h.made) v → HasEnd I F M v
+  found_end I F M search h one v ends = record {
     end = Finished h.made;
     on = record {
       ends = ends;
       proved = h.proved;
       promised = λ fit. h.promised;
       one_text = one;
-      one_in_front = front;
     };
-    told = h.ended;
-    place = tt;
+    known = h.ended;
     cause = tt;
   }
 
-  pub end_verdict : (at : Option (List ℕ)) (P Q : Type 0) (v : Verdict) → HasEnd at P Q v → LastInput path folder at
-      → IsTaskVerdict (FindPattern packages pattern path) folder input at P Q v
-  end_verdict at P Q v h last =
-      task_verdict {E = Unit {0}} P Q (FindPattern packages pattern path) folder input at (Some h.end) (Ok v)
-      h.on h.told h.place h.cause last
+  pub end_verdict : (at : Option (List ℕ)) (I : Type 0) (F : List ℕ → Type 0) (M : Type 0) (v : Verdict)
+      → HasEnd I F M v → LastInput path folder at
+      → IsTaskVerdict (FindPattern packages pattern path) folder input at I F M v
+  end_verdict at I F M v h last =
+      task_verdict {E = Unit {0}} I F M (FindPattern packages pattern path) folder input at (Some h.end) (Ok v)
+      h.on h.known h.cause last
+
+  failed_later : (I : Type 0) (at : Option (List ℕ)) (f0 f1 f2 : ℕ) → f0 ≤ f1 → (file : List ℕ)
+      → IsFailedPath (FindPattern packages pattern path) folder input I (FileFailed at f1 f2) file
+      → IsFailedPath (FindPattern packages pattern path) folder input I (FileFailed at f0 f2) file
+  failed_later I at f0 f1 f2 faults file (inl has) =
+      inl (
+        more_path (is_standard path) ((file ≡ path) × I)
+            (IfSome (opened (FindPattern packages pattern path) folder) (IsMember file))
+            (IfSome (opened (FindPattern packages pattern path) folder) (IsMember file)) (FileFailed at f1 f2 file)
+            (FileFailed at f0 f2 file) (λ h. h) (file_later at f0 f1 f2 faults file) has.0,
+        has.1,
+      )
+  failed_later I at f0 f1 f2 faults file (inr has) = inr (has.0, has.1, file_later at f0 f1 f2 faults file has.2)
 
   -- an ending of the search, counted from before what came before it
-  pub search_later : {X : Type 0} (at : Option (List ℕ)) (i j f0 f1 f2 m0 m1 m2 : ℕ) (r : Result X Ending) → f0 ≤ f1
+  pub search_later : {X : Type 0} (I : Type 0) (at : Option (List ℕ)) (f0 f1 f2 m0 m1 m2 : ℕ) (r : Result X Ending)
+      → f0 ≤ f1
       → m0 ≤ m1
       → IfErr r
-      (IfEnded (HasEndedSearch packages pattern path folder input at (FailedAt path i j f1 f2) (CountRose m1 m2)))
+      (IfEnded (HasEndedSearch packages pattern path folder input I (FileFailed at f1 f2) (CountRose m1 m2)))
       → IfErr r
-      (IfEnded (HasEndedSearch packages pattern path folder input at (FailedAt path i j f0 f2) (CountRose m0 m2)))
-  search_later at i j f0 f1 f2 m0 m1 m2 r faults misses =
-      err_ended (HasEndedSearch packages pattern path folder input at (FailedAt path i j f1 f2) (CountRose m1 m2))
-      (HasEndedSearch packages pattern path folder input at (FailedAt path i j f0 f2) (CountRose m0 m2)) r
+      (IfEnded (HasEndedSearch packages pattern path folder input I (FileFailed at f0 f2) (CountRose m0 m2)))
+  search_later I at f0 f1 f2 m0 m1 m2 r faults misses =
+      err_ended (HasEndedSearch packages pattern path folder input I (FileFailed at f1 f2) (CountRose m1 m2))
+      (HasEndedSearch packages pattern path folder input I (FileFailed at f0 f2) (CountRose m0 m2)) r
       (ended_later (find_at packages pattern path folder input) find_status find_line (IsFindStop path)
-      (IsFailedPath (FindPattern packages pattern path) folder at) (FailedAt path i j f1 f2) (CountRose m1 m2)
-      (FailedAt path i j f0 f2) (CountRose m0 m2) (failed_later path i j f0 f1 f2 faults)
-      (rose_later m0 m1 m2 misses))
+      (IsFailedPath (FindPattern packages pattern path) folder input I (FileFailed at f1 f2))
+      (IsFailedPath (FindPattern packages pattern path) folder input I (FileFailed at f0 f2)) (CountRose m1 m2)
+      (CountRose m0 m2) (failed_later I at f0 f1 f2 faults) (rose_later m0 m1 m2 misses))

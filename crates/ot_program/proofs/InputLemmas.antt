@@ -21,9 +21,10 @@ use Rattle.ot_link.specs.Link.{link}
 use Rattle.ot_link.specs.Answers.{Comes, ran_of, IsOfArticle, HasFailed, HasCause as HasLinkCause}
 use Rattle.ot_link.specs.declared.fault.LinkFault.{LinkFault}
 use Rattle.ot_link.specs.declared.fault.LinkFault.TheVariants as faults
-use Rattle.ot_program.specs.Reply.{limits, article_limit, start, outcome, theory_run, stop_status}
-use Rattle.ot_program.specs.Verdicts.{End, Stopped, end_of, IsAnswer, IsOwnEnd}
-use Rattle.ot_program.specs.Verdicts.{IsNeeded, HasCause, IsLawfulEnd, IsLawfulEnds}
+use Rattle.ot_program.specs.Reply.{limits, article_limit, start, outcome, theory_run}
+use Rattle.ot_program.specs.Answer.{FileFailed}
+use Rattle.ot_program.specs.Verdicts.{End, Stopped, end_of, IsAnswer}
+use Rattle.ot_program.specs.Verdicts.{HasOwnCause, HasTheoryCause, IsLawfulEnd, IsLawfulEnds}
 
 -- ---- theory files
 
@@ -80,12 +81,12 @@ pub theory_answer : (s : Session) (r : Result (Vec Export Global) LinkFault) (pa
 theory_answer s r packages path None comes = tt
 theory_answer s r packages path (Some files) comes = comes_answer s r (theory_run packages path files) comes
 
--- the faults of articles are no failures
-no_failure : (files : Option (List (List ℕ))) (at : Option (List ℕ)) (o : Option (Fault Name)) (path : List ℕ)
-    (line : ℕ)
-    → IfSome (option_map (λ f. Stopped (InArticle path line f)) o) (IsNeeded files at)
-no_failure files at None path line = tt
-no_failure files at (Some f) path line = tt
+-- what holds of the end at each fault of an article holds of the end at this one
+pub article_ends : (P : End Ran Stop → Type 0) (o : Option (Fault Name)) (path : List ℕ) (line : ℕ)
+    → ((f : Fault Name) → P (Stopped (InArticle path line f)))
+    → IfSome (option_map (λ f. Stopped (InArticle path line f)) o) P
+article_ends P None path line holds = tt
+article_ends P (Some f) path line holds = holds f
 
 read_paths : (s : Session) (packages path : List ℕ) (folder : Option Folder) (p : String Global)
     → IfSome folder (λ files. Comes s.kernel (ran_of s) (Err (faults.ReadFault p)) (theory_run packages path files))
@@ -93,45 +94,27 @@ read_paths : (s : Session) (packages path : List ℕ) (folder : Option Folder) (
 read_paths s packages path None p comes = tt
 read_paths s packages path (Some files) p comes = comes
 
--- a failure of a theory file's run is at a file that it needs
-pub theory_needed : (s : Session) (r : Result (Vec Export Global) LinkFault)
+-- a failure of a theory file's run is at a file that it needs, and a missing file was counted
+pub theory_cause : (s : Session) (r : Result (Vec Export Global) LinkFault)
     (packages path : List ℕ) (folder : Option Folder) (at : Option (List ℕ)) (m m' f f' : ℕ)
     → IfSome folder (λ files. Comes s.kernel (ran_of s) r (theory_run packages path files))
     → IfErr r (λ e. HasLinkCause e m m' f f' at)
-    → IfSome (end_of s r) (IsNeeded (option_map (λ files. (theory_run packages path files).paths) folder) at)
-theory_needed s (Ok exports) packages path folder at m m' f f' comes cause = tt
-theory_needed s (Err (faults.Article p line fault)) packages path folder at m m' f f' comes cause =
-    no_failure _ at _ (string_bytes p) line
-theory_needed s (Err (faults.Theory p line fault)) packages path folder at m m' f f' comes cause = tt
-theory_needed s (Err (faults.Structure p line fault)) packages path folder at m m' f f' comes cause = tt
-theory_needed s (Err (faults.TheoryTooLarge p)) packages path folder at m m' f f' comes cause = tt
-theory_needed s (Err (faults.NoFile p)) packages path folder at m m' f f' comes cause = tt
-theory_needed s (Err (faults.ReadFault p)) packages path folder at m m' f f' comes cause = (
+    → IfSome (end_of s r) (HasTheoryCause packages path folder (FileFailed at f f') (CountRose m m'))
+theory_cause s (Ok exports) packages path folder at m m' f f' comes cause = tt
+theory_cause s (Err (faults.Article p line fault)) packages path folder at m m' f f' comes cause =
+    article_ends (HasTheoryCause packages path folder (FileFailed at f f') (CountRose m m')) _ (string_bytes p) line
+    (λ g. (tt, λ is. absurd cc))
+theory_cause s (Err (faults.Theory p line fault)) packages path folder at m m' f f' comes cause =
+    (tt, λ is. absurd cc)
+theory_cause s (Err (faults.Structure p line fault)) packages path folder at m m' f f' comes cause =
+    (tt, λ is. absurd cc)
+theory_cause s (Err (faults.TheoryTooLarge p)) packages path folder at m m' f f' comes cause = (tt, λ is. absurd cc)
+theory_cause s (Err (faults.NoFile p)) packages path folder at m m' f f' comes cause = (tt, λ is. cause)
+theory_cause s (Err (faults.ReadFault p)) packages path folder at m m' f f' comes cause = (
   read_paths s packages path folder p comes,
-  cause.1,
+  cause,
 )
-theory_needed s (Err faults.Memory) packages path folder at m m' f f' comes cause = tt
-
--- a fault of an article is no missing file
-article_cause : (o : Option (Fault Name)) (path : List ℕ) (line : ℕ) (P Q : Type 0)
-    → let ended : Option (End Ran Stop) =
-    option_map (λ f. Stopped (InArticle path line f)) o in
-    IfSome ended (HasCause stop_status P Q)
-article_cause None path line P Q = tt
-article_cause (Some f) path line P Q = λ is. absurd cc
-
-pub theory_cause : (s : Session) (r : Result (Vec Export Global) LinkFault) (at : Option (List ℕ)) (m m' f f' : ℕ)
-    → IfErr r (λ e. HasLinkCause e m m' f f' at)
-    → IfSome (end_of s r) (HasCause stop_status (CountRose f f') (CountRose m m'))
-theory_cause s (Ok exports) at m m' f f' cause = tt
-theory_cause s (Err (faults.Article p line fault)) at m m' f f' cause =
-    article_cause _ (string_bytes p) line (CountRose f f') (CountRose m m')
-theory_cause s (Err (faults.Theory p line fault)) at m m' f f' cause = λ is. absurd cc
-theory_cause s (Err (faults.Structure p line fault)) at m m' f f' cause = λ is. absurd cc
-theory_cause s (Err (faults.TheoryTooLarge p)) at m m' f f' cause = λ is. absurd cc
-theory_cause s (Err (faults.NoFile p)) at m m' f f' cause = λ is. cause
-theory_cause s (Err (faults.ReadFault p)) at m m' f f' cause = cause.0
-theory_cause s (Err faults.Memory) at m m' f f' cause = tt
+theory_cause s (Err faults.Memory) packages path folder at m m' f f' comes cause = tt
 
 -- ---- an article on its own
 
@@ -155,36 +138,18 @@ pub alone_answer : (s : Session) (r : Result (Vec Export Global) LinkFault) (pat
 alone_answer s r path None max limit comes = tt
 alone_answer s r path (Some bytes) max limit comes = alone_bytes s r path bytes max limit comes
 
-own_article : (o : Option (Fault Name)) (p path : List ℕ) (line : ℕ) → p ≡ path
-    → let ended : Option (End Ran Stop) = option_map (λ f. Stopped (InArticle p line f)) o in
-    IfSome ended (IsOwnEnd path)
-own_article None p path line is = tt
-own_article (Some f) p path line is = is
-
--- at its own path
-pub alone_own : (s : Session) (r : Result (Vec Export Global) LinkFault) (path : List ℕ) → IfErr r (IsOfArticle path)
-    → IfSome (end_of s r) (IsOwnEnd path)
-alone_own s (Ok exports) path own = tt
-alone_own s (Err (faults.Article p line fault)) path own = own_article _ (string_bytes p) path line own
-alone_own s (Err (faults.Theory p line fault)) path own = absurd own
-alone_own s (Err (faults.Structure p line fault)) path own = absurd own
-alone_own s (Err (faults.TheoryTooLarge p)) path own = absurd own
-alone_own s (Err (faults.NoFile p)) path own = absurd own
-alone_own s (Err (faults.ReadFault p)) path own = own
-alone_own s (Err faults.Memory) path own = tt
-
--- and fails only where its source does
+-- at its own path, and it fails only where its source does
 pub alone_cause : (s : Session) (r : Result (Vec Export Global) LinkFault) (path : List ℕ) (f f' : ℕ)
     → IfErr r (IsOfArticle path)
-    → IfErr r (λ e. HasFailed e f f') → IfSome (end_of s r) (HasCause stop_status (CountRose f f') ⊥)
+    → IfErr r (λ e. HasFailed e f f') → IfSome (end_of s r) (HasOwnCause path (CountRose f f') ⊥)
 alone_cause s (Ok exports) path f f' own cause = tt
 alone_cause s (Err (faults.Article p line fault)) path f f' own cause =
-    article_cause _ (string_bytes p) line (CountRose f f') ⊥
+    article_ends (HasOwnCause path (CountRose f f') ⊥) _ (string_bytes p) line (λ g. (own, λ is. absurd cc))
 alone_cause s (Err (faults.Theory p line fault)) path f f' own cause = absurd own
 alone_cause s (Err (faults.Structure p line fault)) path f f' own cause = absurd own
 alone_cause s (Err (faults.TheoryTooLarge p)) path f f' own cause = absurd own
 alone_cause s (Err (faults.NoFile p)) path f f' own cause = absurd own
-alone_cause s (Err (faults.ReadFault p)) path f f' own cause = cause
+alone_cause s (Err (faults.ReadFault p)) path f f' own cause = (own, cause)
 alone_cause s (Err faults.Memory) path f f' own cause = tt
 
 -- ---- what is lawful

@@ -4,7 +4,7 @@ use Rattle.std.specs.Prelude.{true, Option, Some, None, IfSome, Result, Ok, Err,
 use Rattle.std.specs.Option.{option_map}
 use Rattle.std.proofs.lemmas.Option.{slice_get-get_or}
 use Rattle.ot_io.specs.Folder.{Folder, GivesFile}
-use Rattle.ot_text.specs.Laws.{OneSequent, OneSequentInFront}
+use Rattle.ot_print.specs.Laws.{TextsNameOne}
 use Rattle.ot_verify.specs.Verifying.{Proved, AreProved}
 use Rattle.ot_program.specs.Reply.{LogStop, CheckLog, is_standard, log_lists, check_bytes, check_file}
 use Rattle.ot_program.specs.Answer.{IsProved}
@@ -22,10 +22,10 @@ log_proved p proved = record {
 -- the verdict on a log that ends
 pub log_ended : {E : Type 0} (path : List ℕ) (p : Proved) (a : Result Verdict E) → IfOk a (EndsAs (CheckLog path) p)
     → AreProved p
-    → OneSequent → OneSequentInFront → IfOk a (IsVerdictOf (CheckLog path) (Some (Finished p)))
-log_ended path p (Err e) ends proved one front = tt
-log_ended path p (Ok v) ends proved one front =
-    record { ends = ends; proved = log_proved p proved; promised = λ fit. tt; one_text = one; one_in_front = front }
+    → TextsNameOne → IfOk a (IsVerdictOf (CheckLog path) (Some (Finished p)))
+log_ended path p (Err e) ends proved one = tt
+log_ended path p (Ok v) ends proved one =
+    record { ends = ends; proved = log_proved p proved; promised = λ fit. tt; one_text = one }
 
 -- the check of standard input, where its bytes are known
 standard_answer : (left : Option (List ℕ)) (e : End Proved LogStop)

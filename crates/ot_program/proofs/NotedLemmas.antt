@@ -30,22 +30,24 @@ use Rattle.ot_link.specs.Answers.{Comes, HasCause as HasLinkCause}
 use Rattle.ot_link.specs.declared.fault.LinkFault.{LinkFault}
 use Rattle.ot_link.specs.declared.fault.LinkFault.TheVariants as faults
 use Rattle.ot_text.specs.Pages.{Appended}
-use Rattle.ot_text.specs.Laws.{OneSequent, OneSequentInFront}
+use Rattle.ot_print.specs.Laws.{TextsNameOne}
 use Rattle.ot_pretty.specs.Summary.{ReadBack, hidden_in_run, readable_summary, hidden_at, summary_at}
 use Rattle.ot_program.specs.Texts.{large_line}
-use Rattle.ot_program.specs.Reply.{RunInput, ShowReadable, Noted, limits, theory_shown, shown_at, noted_told}
+use Rattle.ot_program.specs.Reply.{RunInput, ShowReadable, Noted, limits, theory_shown, shown_at, noted_known}
 use Rattle.ot_program.specs.Reply.{opened_first, opened_at, is_standard, readable, notation, assumptions_of}
 use Rattle.ot_program.specs.Reply.{definitions_of, exports_of, run_lists, summary_limit, stop_status}
-use Rattle.ot_program.specs.Answer.{IsProved, IsInputStop, LeavesOther, ClosesFiles, AreReadBack}
+use Rattle.ot_program.specs.Answer.{IsProved, IsInputStop, FileFailed, IsFailedPath, LeavesOther}
+use Rattle.ot_program.specs.Answer.{ClosesFiles, AreReadBack}
 use Rattle.ot_program.specs.Verdicts.{End, Finished, Stopped, Failed, ran_from, noted_from, noted_end, end_at}
-use Rattle.ot_program.specs.Verdicts.{IsAnswer, IsPlace, HasCause, IsSaid, IsStopVerdict, IsVerdictOf, ReadableEndsAs}
+use Rattle.ot_program.specs.Verdicts.{IsAnswer, HasCause, HasTaskCause, IsSaid, IsStopVerdict, IsVerdictOf}
+use Rattle.ot_program.specs.Verdicts.{ReadableEndsAs}
 use Rattle.ot_program.specs.declared.report.Verdict.{Verdict}
 use Rattle.ot_program.specs.declared.status.Status.TheVariants.{Accepted, Refused}
 use Rattle.ot_program.specs.declared.task.View.{View}
 use Rattle.ot_program.proofs.RunLemmas.{assumptions_are, definitions_are, exports_are}
 use Rattle.ot_program.proofs.LimitLemmas.{text_printed, text_too_large}
 use Rattle.ot_logic.proofs.Members.{IsMember-left, IsMember-right}
-use Rattle.ot_program.proofs.Options.{untold}
+use Rattle.ot_program.proofs.Options.{unknown}
 
 -- ---- what an input shows
 
@@ -59,13 +61,13 @@ theory_comes r path folder l same comes k =
     (shown (record { folder = folder; packages = []; limits = m }) path))
     same (comes k)
 
-told_comes : (r : Result (Vec Name Global) LinkFault) (path : List ℕ) (folder : Option Folder) (l : Limits)
+known_comes : (r : Result (Vec Name Global) LinkFault) (path : List ℕ) (folder : Option Folder) (l : Limits)
     → l ≡ limits
     → IfSome folder (λ files. (k : State)
     → Comes k (λ ns. ns.items) r (shown (record { folder = files; packages = []; limits = l }) path))
     → IfSome (option_map (theory_shown path) folder) (λ x. (k : State) → Comes k (λ ns. ns.items) r x)
-told_comes r path None l same comes = tt
-told_comes r path (Some files) l same comes = theory_comes r path files l same comes
+known_comes r path None l same comes = tt
+known_comes r path (Some files) l same comes = theory_comes r path files l same comes
 
 pub shown_comes : (r : Result (Vec Name Global) LinkFault) (path : List ℕ) (folder : Option Folder) (l : Limits)
     → l ≡ limits
@@ -73,7 +75,7 @@ pub shown_comes : (r : Result (Vec Name Global) LinkFault) (path : List ℕ) (fo
     → IfSome folder (λ files. (k : State)
     → Comes k (λ ns. ns.items) r (shown (record { folder = files; packages = []; limits = l }) path))
     → IfSome (shown_at path folder) (λ x. (k : State) → Comes k (λ ns. ns.items) r x)
-shown_comes r path folder l same theory comes = rw theory (told_comes r path folder l same comes)
+shown_comes r path folder l same theory comes = rw theory (known_comes r path folder l same comes)
 
 -- standard input is no theory file
 pub no_standard : (path : List ℕ) → is_theory path ≡ true → is_standard path ≡ false
@@ -92,7 +94,7 @@ pub ends : (k : State) (names : Vec Name Global) (xs : Option (Linked (List Name
     (ran : Option (Linked Ran)) (o : Option (End Ran Stop))
     → IfSome xs (λ x. (k : State) → Comes k (λ (ns : Vec Name Global). ns.items) (Ok names) x)
     → IfSome o (λ e. IfSome (option_map (λ l. l.answer) ran) (λ answer. IsAnswer answer e))
-    → IfSome (option_map (noted_end names.items) o) (λ e. IfSome (noted_told xs ran) (λ answer. IsAnswer answer e))
+    → IfSome (option_map (noted_end names.items) o) (λ e. IfSome (noted_known xs ran) (λ answer. IsAnswer answer e))
 ends k names xs ran None shows ended = tt
 ends k names None ran (Some e) shows ended = tt
 ends k names (Some x) None (Some e) shows ended = tt
@@ -101,37 +103,37 @@ ends k names (Some x) (Some l) (Some (Stopped s)) shows ended = rw (shows k, end
 ends k names (Some x) (Some l) (Some (Failed path)) shows ended = tt
 
 -- by a stop of what is shown
-stop_told : (xs : Option (Linked (List Name))) (ran : Option (Linked Ran)) (s : Stop)
+stop_known : (xs : Option (Linked (List Name))) (ran : Option (Linked Ran)) (s : Stop)
     → IfSome xs (λ x. x.answer ≡ Err s)
-    → IfSome (noted_told xs ran) (λ answer. answer ≡ Err s)
-stop_told None ran s is = tt
-stop_told (Some x) None s is = tt
-stop_told (Some x) (Some l) s is = rw is refl
+    → IfSome (noted_known xs ran) (λ answer. answer ≡ Err s)
+stop_known None ran s is = tt
+stop_known (Some x) None s is = tt
+stop_known (Some x) (Some l) s is = rw is refl
 
 article_stop : (x : Linked (List Name)) (ran : Option (Linked Ran)) (path : List ℕ) (line : ℕ)
     (o : Option (Fault Name))
     → (f : Fault Name) × (o ≡ Some f) × (x.answer ≡ Err (InArticle path line f))
     → let ended : Option (End Ran Stop) = option_map (λ f. Stopped (InArticle path line f)) o in
-    IfSome (option_map (noted_end []) ended) (λ e. IfSome (noted_told (Some x) ran) (λ answer. IsAnswer answer e))
-article_stop x ran path line o is = rw is.1 (stop_told (Some x) ran (InArticle path line is.0) is.2)
+    IfSome (option_map (noted_end []) ended) (λ e. IfSome (noted_known (Some x) ran) (λ answer. IsAnswer answer e))
+article_stop x ran path line o is = rw is.1 (stop_known (Some x) ran (InArticle path line is.0) is.2)
 
 pub stops : (k : State) (e : LinkFault) (xs : Option (Linked (List Name))) (ran : Option (Linked Ran))
     → IfSome xs (λ x. (k : State) → Comes k (λ (ns : Vec Name Global). ns.items) (Err e) x)
-    → IfSome (option_map (noted_end []) (end_at k e)) (λ e. IfSome (noted_told xs ran) (λ answer. IsAnswer answer e))
-stops k e None ran comes = never_told (option_map (noted_end []) (end_at k e)) where
-  never_told : (o : Option (End Noted Stop))
-      → IfSome o (λ e. IfSome (noted_told None ran) (λ answer. IsAnswer answer e))
-  never_told None = tt
-  never_told (Some e) = tt
+    → IfSome (option_map (noted_end []) (end_at k e)) (λ e. IfSome (noted_known xs ran) (λ answer. IsAnswer answer e))
+stops k e None ran comes = never_known (option_map (noted_end []) (end_at k e)) where
+  never_known : (o : Option (End Noted Stop))
+      → IfSome o (λ e. IfSome (noted_known None ran) (λ answer. IsAnswer answer e))
+  never_known None = tt
+  never_known (Some e) = tt
 stops k (faults.Article path line fault) (Some x) ran comes = article_stop x ran (string_bytes path) line _ (comes k)
-stops k (faults.Theory path line fault) (Some x) ran comes = stop_told (Some x) ran _ (comes k)
-stops k (faults.Structure path line fault) (Some x) ran comes = stop_told (Some x) ran _ (comes k)
-stops k (faults.TheoryTooLarge path) (Some x) ran comes = stop_told (Some x) ran _ (comes k)
-stops k (faults.NoFile path) (Some x) ran comes = stop_told (Some x) ran _ (comes k)
-stops k (faults.ReadFault path) (Some x) ran comes = untold (noted_told (Some x) ran)
+stops k (faults.Theory path line fault) (Some x) ran comes = stop_known (Some x) ran _ (comes k)
+stops k (faults.Structure path line fault) (Some x) ran comes = stop_known (Some x) ran _ (comes k)
+stops k (faults.TheoryTooLarge path) (Some x) ran comes = stop_known (Some x) ran _ (comes k)
+stops k (faults.NoFile path) (Some x) ran comes = stop_known (Some x) ran _ (comes k)
+stops k (faults.ReadFault path) (Some x) ran comes = unknown (noted_known (Some x) ran)
 stops k faults.Memory (Some x) ran comes = tt
 
--- a stop comes to the same whatever is shown
+-- a stop is the same whatever is shown
 same_article : (ns : List Name) (path : List ℕ) (line : ℕ) (o : Option (Fault Name))
     → let ended : Option (End Ran Stop) = option_map (λ f. Stopped (InArticle path line f)) o in
     option_map (noted_end ns) ended ≡ option_map (noted_end []) ended
@@ -148,7 +150,7 @@ same_stop ns k (faults.NoFile path) = refl
 same_stop ns k (faults.ReadFault path) = refl
 same_stop ns k faults.Memory = refl
 
--- ---- its place
+-- ---- its cause
 
 later_member : (p : List ℕ) (xs : Option (Linked (List Name))) (paths : Option (List (List ℕ)))
     → IfSome paths (IsMember p)
@@ -163,83 +165,6 @@ first_member p None paths is = tt
 first_member p (Some x) None is = tt
 first_member p (Some x) (Some ps) is = IsMember-left p x.paths ps is
 
-later_path : (b : Bool) (path p : List ℕ) (xs : Option (Linked (List Name)))
-    (paths : Option (List (List ℕ))) (at : Option (List ℕ))
-    → MatchBool b (p ≡ path) (IfSome paths (IsMember p) × IfSome at (λ asked. p ≡ asked))
-    → MatchBool b (p ≡ path) (IfSome (opened_first xs paths) (IsMember p) × IfSome at (λ asked. p ≡ asked))
-later_path true path p xs paths at is = is
-later_path false path p xs paths at is = (later_member p xs paths is.0, is.1)
-
-first_path : (b : Bool) (path p : List ℕ) (paths : Option (List (List ℕ))) (at : Option (List ℕ)) → b ≡ false
-    → IfSome paths (IsMember p) × IfSome at (λ asked. p ≡ asked)
-    → MatchBool b (p ≡ path) (IfSome paths (IsMember p) × IfSome at (λ asked. p ≡ asked))
-first_path true path p paths at file is = cc
-first_path false path p paths at file is = is
-
--- in the run
-pub places : (names : List Name) (packages path : List ℕ) (view : View)
-    (folder : Option Folder) (at : Option (List ℕ)) (o : Option (End Ran Stop))
-    → IfSome o (IsPlace (RunInput packages path view) folder at)
-    → IfSome (option_map (noted_end names) o) (IsPlace (ShowReadable packages path) folder at)
-places names packages path view folder at None place = tt
-places names packages path view folder at (Some (Finished r)) place = tt
-places names packages path view folder at (Some (Stopped s)) place = place
-places names packages path view folder at (Some (Failed p)) place =
-    later_path (is_standard path) path p (shown_at path folder) (opened_at packages path folder) at place
-
--- or before it
-theory_stop : (path : List ℕ) (s : Stop) → is_theory path ≡ true → IsInputStop path s
-theory_stop path s theory = rw theory tt
-
-article_place : (packages path : List ℕ) (folder : Option Folder)
-    (at : Option (List ℕ)) (p : List ℕ) (line : ℕ) (o : Option (Fault Name))
-    → is_theory path ≡ true
-    → let e : Option (End Ran Stop) = option_map (λ f. Stopped (InArticle p line f)) o in
-    IfSome (option_map (noted_end []) e) (IsPlace (ShowReadable packages path) folder at)
-article_place packages path folder at p line None theory = tt
-article_place packages path folder at p line (Some f) theory = theory_stop path (InArticle p line f) theory
-
-read_member : (k : State) (p : String Global) (xs : Option (Linked (List Name)))
-    → IfSome xs (λ x. (k : State) → Comes k (λ (ns : Vec Name Global). ns.items) (Err (faults.ReadFault p)) x)
-    → IfSome xs (λ x. IsMember (string_bytes p) x.paths)
-read_member k p None comes = tt
-read_member k p (Some x) comes = comes k
-
-pub stop_places : (k : State) (e : LinkFault) (packages path : List ℕ)
-    (folder : Option Folder) (at : Option (List ℕ)) (m m' f f' : ℕ)
-    → is_theory path ≡ true
-    → IfSome (shown_at path folder) (λ x. (k : State) → Comes k (λ (ns : Vec Name Global). ns.items) (Err e) x)
-    → HasLinkCause e m m' f f' at
-    → IfSome (option_map (noted_end []) (end_at k e)) (IsPlace (ShowReadable packages path) folder at)
-stop_places k (faults.Article p line fault) packages path folder at m m' f f' theory comes cause =
-    article_place packages path folder at (string_bytes p) line _ theory
-stop_places k (faults.Theory p line fault) packages path folder at m m' f f' theory comes cause =
-    theory_stop path (InTheory (string_bytes p) line fault) theory
-stop_places k (faults.Structure p line fault) packages path folder at m m' f f' theory comes cause =
-    theory_stop path (InStructure (string_bytes p) line fault) theory
-stop_places k (faults.TheoryTooLarge p) packages path folder at m m' f f' theory comes cause =
-    theory_stop path (TooLarge (string_bytes p)) theory
-stop_places k (faults.NoFile p) packages path folder at m m' f f' theory comes cause =
-    theory_stop path (Missing (string_bytes p)) theory
-stop_places k (faults.ReadFault p) packages path folder at m m' f f' theory comes cause =
-    first_path (is_standard path) path (string_bytes p)
-    (opened_first (shown_at path folder) (opened_at packages path folder)) at (no_standard path theory) (
-      first_member (string_bytes p) (shown_at path folder)
-          (opened_at packages path folder) (read_member k p (shown_at path folder) comes),
-      cause.1,
-    )
-stop_places k faults.Memory packages path folder at m m' f f' theory comes cause = tt
-
--- ---- its cause
-
-pub causes : (names : List Name) (P Q P' Q' : Type 0) (o : Option (End Ran Stop)) → (P → P') → (Q → Q')
-    → IfSome o (HasCause stop_status P Q)
-    → IfSome (option_map (noted_end names) o) (HasCause stop_status P' Q')
-causes names P Q P' Q' None failed missed cause = tt
-causes names P Q P' Q' (Some (Finished r)) failed missed cause = tt
-causes names P Q P' Q' (Some (Stopped s)) failed missed cause = λ is. missed (cause is)
-causes names P Q P' Q' (Some (Failed p)) failed missed cause = failed cause
-
 -- a device that failed later failed since
 pub rose_later : (a b c : ℕ) → a ≤ b → CountRose b c → CountRose a c
 rose_later a b c h r =
@@ -250,13 +175,88 @@ rose_later a b c h r =
     let later : min (b + 1) 18446744073709551615 ≤ c = r in
     omega arith
 
-pub failed_later : (path : List ℕ) (i j a b c : ℕ) → a ≤ b
-    → MatchBool (is_standard path) (CountRose i j) (CountRose b c)
-    → MatchBool (is_standard path) (CountRose i j) (CountRose a c)
-failed_later path i j a b c h r = go (is_standard path) r where
-  go : (t : Bool) → MatchBool t (CountRose i j) (CountRose b c) → MatchBool t (CountRose i j) (CountRose a c)
-  go true r = r
-  go false r = rose_later a b c h r
+pub file_later : (at : Option (List ℕ)) (a b c : ℕ) → a ≤ b → (file : List ℕ) → FileFailed at b c file
+    → FileFailed at a c file
+file_later at a b c h file failed = (rose_later a b c h failed.0, failed.1)
+
+-- at one more of the files that are needed, or for a further reason
+pub more_path : (b : Bool) (X P Q A B : Type 0) → (P → Q) → (A → B) → MatchBool b X (P × A) → MatchBool b X (Q × B)
+more_path true X P Q A B needed failed is = is
+more_path false X P Q A B needed failed is = (needed is.0, failed is.1)
+
+file_path : (b : Bool) (X Y : Type 0) → b ≡ false → Y → MatchBool b X Y
+file_path true X Y file is = absurd cc
+file_path false X Y file is = is
+
+-- in the run
+pub causes : (names : List Name) (packages path : List ℕ) (view : View) (folder : Option Folder)
+    (input : Option (List ℕ)) (I : Type 0) (F G : List ℕ → Type 0) (M N : Type 0) (o : Option (End Ran Stop)) → ((file : List ℕ) → F file → G file)
+    → (M → N) → IfSome o (HasTaskCause (RunInput packages path view) folder input I F M)
+    → IfSome (option_map (noted_end names) o) (HasTaskCause (ShowReadable packages path) folder input I G N)
+causes names packages path view folder input I F G M N None failed missed cause = tt
+causes names packages path view folder input I F G M N (Some (Finished r)) failed missed cause = tt
+causes names packages path view folder input I F G M N (Some (Stopped s)) failed missed cause = (
+  cause.0,
+  λ is. missed (cause.1 is),
+)
+causes names packages path view folder input I F G M N (Some (Failed p)) failed missed cause =
+    more_path (is_standard path) ((p ≡ path) × I) (IfSome (opened_at packages path folder) (IsMember p))
+    (IfSome (opened_first (shown_at path folder) (opened_at packages path folder)) (IsMember p)) (F p) (G p)
+    (later_member p (shown_at path folder) (opened_at packages path folder)) (failed p) cause
+
+-- or before it
+theory_stop : (path : List ℕ) (s : Stop) → is_theory path ≡ true → IsInputStop path s
+theory_stop path s theory = rw theory tt
+
+article_cause : (P : Stop → Type 0) (Q : List ℕ → Type 0) (M : Type 0) (p : List ℕ) (line : ℕ)
+    (o : Option (Fault Name))
+    → ((f : Fault Name) → P (InArticle p line f))
+    → let e : Option (End Ran Stop) = option_map (λ f. Stopped (InArticle p line f)) o in
+    IfSome (option_map (noted_end []) e) (HasCause stop_status P Q M)
+article_cause P Q M p line None own = tt
+article_cause P Q M p line (Some f) own = (own f, λ is. absurd cc)
+
+read_member : (k : State) (p : String Global) (xs : Option (Linked (List Name)))
+    → IfSome xs (λ x. (k : State) → Comes k (λ (ns : Vec Name Global). ns.items) (Err (faults.ReadFault p)) x)
+    → IfSome xs (λ x. IsMember (string_bytes p) x.paths)
+read_member k p None comes = tt
+read_member k p (Some x) comes = comes k
+
+pub stop_causes : (k : State) (e : LinkFault) (packages path : List ℕ) (folder : Option Folder)
+    (input : Option (List ℕ)) (I : Type 0) (at : Option (List ℕ)) (m m' f f' : ℕ)
+    → is_theory path ≡ true
+    → IfSome (shown_at path folder) (λ x. (k : State) → Comes k (λ (ns : Vec Name Global). ns.items) (Err e) x)
+    → HasLinkCause e m m' f f' at
+    → IfSome (option_map (noted_end []) (end_at k e))
+    (HasTaskCause (ShowReadable packages path) folder input I (FileFailed at f f') (CountRose m m'))
+stop_causes k (faults.Article p line fault) packages path folder input I at m m' f f' theory comes cause =
+    article_cause (IsInputStop path) (IsFailedPath (ShowReadable packages path) folder input I (FileFailed at f f'))
+    (CountRose m m') (string_bytes p) line _ (λ g. theory_stop path (InArticle (string_bytes p) line g) theory)
+stop_causes k (faults.Theory p line fault) packages path folder input I at m m' f f' theory comes cause = (
+  theory_stop path (InTheory (string_bytes p) line fault) theory,
+  λ is. absurd cc,
+)
+stop_causes k (faults.Structure p line fault) packages path folder input I at m m' f f' theory comes cause = (
+  theory_stop path (InStructure (string_bytes p) line fault) theory,
+  λ is. absurd cc,
+)
+stop_causes k (faults.TheoryTooLarge p) packages path folder input I at m m' f f' theory comes cause = (
+  theory_stop path (TooLarge (string_bytes p)) theory,
+  λ is. absurd cc,
+)
+stop_causes k (faults.NoFile p) packages path folder input I at m m' f f' theory comes cause = (
+  theory_stop path (Missing (string_bytes p)) theory,
+  λ is. cause,
+)
+stop_causes k (faults.ReadFault p) packages path folder input I at m m' f f' theory comes cause =
+    file_path (is_standard path) ((string_bytes p ≡ path) × I)
+    (IfSome (opened_first (shown_at path folder) (opened_at packages path folder)) (IsMember (string_bytes p))
+    × FileFailed at f f' (string_bytes p)) (no_standard path theory) (
+      first_member (string_bytes p) (shown_at path folder)
+          (opened_at packages path folder) (read_member k p (shown_at path folder) comes),
+      cause,
+    )
+stop_causes k faults.Memory packages path folder input I at m m' f f' theory comes cause = tt
 
 -- ---- its verdict
 
@@ -279,15 +279,14 @@ stop_verdict packages path names (Ok v) o said = stop_verdict_on packages path n
 pub end_verdict : {E : Type 0} (packages path : List ℕ) (n : Noted) (a : Result Verdict E)
     → IfOk a (ReadableEndsAs path n)
     → OnOk a (nat_le (length (readable n)) summary_limit ≡ true → AreReadBack n)
-    → IsProved (run_lists n.ran) → OneSequent → OneSequentInFront
+    → IsProved (run_lists n.ran) → TextsNameOne
     → IfOk a (IsVerdictOf (ShowReadable packages path) (Some (Finished n)))
-end_verdict packages path n (Err e) said back proved one front = tt
-end_verdict packages path n (Ok v) said back proved one front = record {
+end_verdict packages path n (Err e) said back proved one = tt
+end_verdict packages path n (Ok v) said back proved one = record {
   ends = said;
   proved = proved;
   promised = back;
   one_text = one;
-  one_in_front = front;
 }
 
 -- ---- its text

@@ -2,7 +2,7 @@
 use Rattle.std.proofs.Common.{◌≡◌, ℕ, zero, suc, ◌<◌, ◌≤◌, ◌+◌, List, [], ◌∷◌, length}
 use Rattle.std.proofs.Common.{map, take, refl, sym, ap, subst, ◌∙◌, inl, inr, ◌⊎◌, arith}
 use Rattle.std.specs.Prelude.{Bool, true, false, ◌||◌, nat_le, MatchBool, Option, Some}
-use Rattle.std.specs.Prelude.{None, IfSome, IsSomeAnd, Result, Ok, Err, IfOk, Vec}
+use Rattle.std.specs.Prelude.{None, IfSome, IsSomeAnd, Result, Ok, Err, IfOk, IfErr, Vec}
 use Rattle.std.specs.Global.{Global}
 use Rattle.std.proofs.lemmas.Bool.{le-leb, lt-leb}
 use Rattle.std.specs.Option.{option_map, option_and_then}
@@ -27,91 +27,72 @@ use Rattle.ot_read.specs.Lines.{lines_read, term_read}
 use Rattle.ot_read.specs.Laws.{TermsReadByForms, LinesReadByForms, TextsReadByForms, AreRead, StandFor}
 use Rattle.ot_read.proofs.Alike.{term-alike, lines-alike}
 use Rattle.ot_program.specs.Reply.{ShowReadable, ReadLines, Noted, Readings, ReadStop, InInput}
-use Rattle.ot_program.specs.Reply.{TextTooLarge, notation, is_standard, text_limit}
-use Rattle.ot_program.specs.Reply.{text_in, read_in, read_behind, stop_status, read_status}
+use Rattle.ot_program.specs.Reply.{TextTooLarge, noted_at, notation, is_standard, text_limit, text_in, read_in}
+use Rattle.ot_program.specs.Reply.{read_behind}
 use Rattle.ot_program.specs.Answer.{LastInput, LastOf}
-use Rattle.ot_program.specs.Verdicts.{End, Finished, Stopped, Failed, IsAnswer, IsPlace, HasCause, noted_from}
-use Rattle.ot_program.specs.Verdicts.{noted_end, stop_end, read_end_of, IsStopVerdict, IsVerdictOf}
+use Rattle.ot_program.specs.Verdicts.{End, Finished, Stopped, Failed, IsAnswer, IsTextCause, HasTaskCause}
+use Rattle.ot_program.specs.Verdicts.{noted_from, noted_end, stop_end, read_end_of, IsStopVerdict, IsVerdictOf}
 use Rattle.ot_program.specs.declared.report.Verdict.{Verdict}
 use Rattle.ot_program.specs.declared.reading.LinesRead.{LinesRead}
 use Rattle.ot_program.specs.declared.reading.ReadingRefusal.{ReadingRefusal}
 use Rattle.ot_program.specs.declared.reading.ReadingRefusal.TheVariants as readings
 use Rattle.ot_program.proofs.NotedLemmas.{notation_is}
-use Rattle.ot_program.proofs.Options.{untold}
+use Rattle.ot_program.proofs.Options.{unknown, ends_with}
 
 -- ---- the end
 
 -- behind a run that ended
 pub behind : (text : List ℕ) (folder : Option Folder)
-    (told : Option (Result Noted Stop)) (n : Noted) (o : Option (End Readings ReadStop))
-    → IfSome told (λ answer. answer ≡ Ok n) → IfSome folder (λ files. IfSome o (IsAnswer (read_in n text files)))
-    → IfSome o (λ e. IfSome (option_and_then (read_behind text folder) told) (λ answer. IsAnswer answer e))
-behind text folder None n o ran read = untold o
-behind text None (Some answer) n o ran read = rw ran (untold o)
+    (known : Option (Result Noted Stop)) (n : Noted) (o : Option (End Readings ReadStop))
+    → IfSome known (λ answer. answer ≡ Ok n) → IfSome folder (λ files. IfSome o (IsAnswer (read_in n text files)))
+    → IfSome o (λ e. IfSome (option_and_then (read_behind text folder) known) (λ answer. IsAnswer answer e))
+behind text folder None n o ran read = unknown o
+behind text None (Some answer) n o ran read = rw ran (unknown o)
 behind text (Some files) (Some answer) n o ran read = rw ran read
 
 -- and behind one that stopped, or failed
-input_stop : (text : List ℕ) (folder : Option Folder) (told : Option (Result Noted Stop)) (s : Stop)
-    → IfSome told (λ answer. answer ≡ Err s)
-    → IfSome (option_and_then (read_behind text folder) told) (λ answer. answer ≡ Err (InInput s))
+input_stop : (text : List ℕ) (folder : Option Folder) (known : Option (Result Noted Stop)) (s : Stop)
+    → IfSome known (λ answer. answer ≡ Err s)
+    → IfSome (option_and_then (read_behind text folder) known) (λ answer. answer ≡ Err (InInput s))
 input_stop text folder None s is = tt
 input_stop text folder (Some answer) s is = rw is refl
 
-pub stop_behind : (text : List ℕ) (folder : Option Folder) (told : Option (Result Noted Stop))
+pub stop_behind : (text : List ℕ) (folder : Option Folder) (known : Option (Result Noted Stop))
     (o : Option (End Ran Stop))
-    → IfSome (option_map (noted_end []) o) (λ e. IfSome told (λ answer. IsAnswer answer e))
+    → IfSome (option_map (noted_end []) o) (λ e. IfSome known (λ answer. IsAnswer answer e))
     → IfSome (option_and_then stop_end o) (λ e. IfSome
-    (option_and_then (read_behind text folder) told) (λ answer. IsAnswer answer e))
-stop_behind text folder told None ended = tt
-stop_behind text folder told (Some (Finished r)) ended = tt
-stop_behind text folder told (Some (Stopped s)) ended = input_stop text folder told s ended
-stop_behind text folder told (Some (Failed path)) ended = untold (option_and_then (read_behind text folder) told)
-
--- ---- its place
-
-asked_text : (folder : Option Folder) (text : List ℕ) → IfSome (path_asked folder text) (λ asked. text ≡ asked)
-asked_text None text = tt
-asked_text (Some files) text = go (bytes_at files text) where
-  go : (o : Option (List ℕ)) → IfSome (option_map (λ bytes. text) o) (λ asked. text ≡ asked)
-  go None = tt
-  go (Some bytes) = refl
-
-pub text_place : (packages path text : List ℕ) (folder : Option Folder)
-    (at : Option (List ℕ)) (n : Noted) (r : Result LinesRead ReadingRefusal)
-    → at ≡ path_asked folder text
-    → IfSome (read_end_of text n r) (IsPlace (ReadLines packages path text) folder at)
-text_place packages path text folder at n (Ok read) last = tt
-text_place packages path text folder at n (Err (readings.At line column fault)) last = tt
-text_place packages path text folder at n (Err readings.TooLarge) last = tt
-text_place packages path text folder at n (Err readings.NoFile) last = tt
-text_place packages path text folder at n (Err readings.ReadFault) last = inr (refl, rw last (asked_text folder text))
-text_place packages path text folder at n (Err readings.Memory) last = tt
-
-pub input_place : (packages path text : List ℕ) (folder : Option Folder) (at : Option (List ℕ))
-    (o : Option (End Ran Stop))
-    → IfSome (option_map (noted_end []) o) (IsPlace (ShowReadable packages path) folder at)
-    → IfSome (option_and_then stop_end o) (IsPlace (ReadLines packages path text) folder at)
-input_place packages path text folder at None place = tt
-input_place packages path text folder at (Some (Finished r)) place = tt
-input_place packages path text folder at (Some (Stopped s)) place = place
-input_place packages path text folder at (Some (Failed failed)) place = inl place
+    (option_and_then (read_behind text folder) known) (λ answer. IsAnswer answer e))
+stop_behind text folder known None ended = tt
+stop_behind text folder known (Some (Finished r)) ended = tt
+stop_behind text folder known (Some (Stopped s)) ended = input_stop text folder known s ended
+stop_behind text folder known (Some (Failed path)) ended = unknown (option_and_then (read_behind text folder) known)
 
 -- ---- its cause
 
-pub text_cause : (P Q P' Q' : Type 0) (o : Option (End Readings ReadStop)) → (P → P') → (Q → Q')
-    → IfSome o (HasCause read_status P Q) → IfSome o (HasCause read_status P' Q')
-text_cause P Q P' Q' None failed missed cause = tt
-text_cause P Q P' Q' (Some (Finished r)) failed missed cause = tt
-text_cause P Q P' Q' (Some (Stopped s)) failed missed cause = λ is. missed (cause is)
-text_cause P Q P' Q' (Some (Failed p)) failed missed cause = failed cause
+pub text_cause : (packages path text : List ℕ) (folder : Option Folder) (input : Option (List ℕ)) (n : Noted)
+    (I : Type 0) (F : List ℕ → Type 0) (A M N : Type 0) (r : Result LinesRead ReadingRefusal)
+    → IfSome (noted_at packages path folder input) (λ answer. answer ≡ Ok n) → (A → F text) → (M → N)
+    → IfErr r (λ e. IsTextCause e A M)
+    → IfSome (read_end_of text n r) (HasTaskCause (ReadLines packages path text) folder input I F N)
+text_cause packages path text folder input n I F A M N (Ok read) ran failed missed cause = tt
+text_cause packages path text folder input n I F A M N (Err (readings.At line column fault)) ran failed missed cause =
+    (tt, λ is. absurd cc)
+text_cause packages path text folder input n I F A M N (Err readings.TooLarge) ran failed missed cause =
+    (tt, λ is. absurd cc)
+text_cause packages path text folder input n I F A M N (Err readings.NoFile) ran failed missed cause =
+    (tt, λ is. missed cause)
+text_cause packages path text folder input n I F A M N (Err readings.ReadFault) ran failed missed cause =
+    inr (refl, ends_with n (noted_at packages path folder input) ran, failed cause)
+text_cause packages path text folder input n I F A M N (Err readings.Memory) ran failed missed cause = tt
 
-pub input_cause : (P Q P' : Type 0) (o : Option (End Ran Stop)) → (P → P')
-    → IfSome (option_map (noted_end []) o) (HasCause stop_status P Q)
-    → IfSome (option_and_then stop_end o) (HasCause read_status P' Q)
-input_cause P Q P' None failed cause = tt
-input_cause P Q P' (Some (Finished r)) failed cause = tt
-input_cause P Q P' (Some (Stopped s)) failed cause = cause
-input_cause P Q P' (Some (Failed p)) failed cause = failed cause
+pub input_cause : (packages path text : List ℕ) (folder : Option Folder) (input : Option (List ℕ)) (I : Type 0)
+    (F : List ℕ → Type 0) (M : Type 0) (o : Option (End Ran Stop))
+    → IfSome (option_map (noted_end []) o) (HasTaskCause (ShowReadable packages path) folder input I F M)
+    → IfSome (option_and_then stop_end o) (HasTaskCause (ReadLines packages path text) folder input I F M)
+input_cause packages path text folder input I F M None cause = tt
+input_cause packages path text folder input I F M (Some (Finished r)) cause = tt
+input_cause packages path text folder input I F M (Some (Stopped s)) cause = cause
+input_cause packages path text folder input I F M (Some (Failed p)) cause = inl cause
 
 -- ---- the path that was asked for last
 
@@ -154,8 +135,6 @@ pub input_verdict : {E : Type 0} (packages path text : List ℕ) (a : Result Ver
     → IfOk a (IsVerdictOf (ReadLines packages path text) (option_and_then stop_end o))
 input_verdict packages path text (Err e) o said = tt
 input_verdict packages path text (Ok v) o said = input_verdict_on packages path text v o said
-
--- ---- the devices
 
 -- ---- the lines under the notation of a run
 

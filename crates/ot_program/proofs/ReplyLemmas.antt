@@ -2,252 +2,282 @@
 use Rattle.std.proofs.Common.{◌≡◌, ℕ, List, refl, ap, sym, subst, inl, inr, ◌⊎◌, ◌∙◌}
 use Rattle.std.specs.Prelude.{Bool, true, false, MatchBool, Option, Some, Ok, Err, IfSome}
 use Rattle.std.specs.Io.KnownBytes.{Appends}
+use Rattle.ot_logic.specs.Lists.{IsMember}
 use Rattle.ot_io.specs.Causes.{CountRose}
 use Rattle.ot_io.specs.Folder.{Folder}
-use Rattle.ot_io.specs.Sinks.{AppendsFront}
+use Rattle.ot_io.specs.Sinks.{AppendsFront, FlushesAll}
 use Rattle.ot_program.specs.Texts.{write_fault_line}
-use Rattle.ot_program.specs.Reply.{Reply, accepted, fails, TaskValue, RunInput, RunSample, MakeSample}
-use Rattle.ot_program.specs.Reply.{CheckLog, ShowReadable, ReadLines, FindPattern, task_of}
-use Rattle.ot_program.specs.Reply.{sample_path, is_standard, Told, result_of, reply_to, answer}
-use Rattle.ot_program.specs.Answer.{MatchesReply, IsVerdict, IsReport, IsStopLine, IsLargeLine}
-use Rattle.ot_program.specs.Answer.{Says, Writes, WritesLine, WritesSome, IsLine, FailedIn}
-use Rattle.ot_program.specs.Verdicts.{IsReplyOf, Ends, error_line}
+use Rattle.ot_program.specs.Reply.{Reply, accepted, fails, TaskValue, ReadLines, FindPattern, task_of}
+use Rattle.ot_program.specs.Reply.{input_of, is_standard, KnownResult, result_of, opened, reply_to, answer}
+use Rattle.ot_program.specs.Answer.{MatchesReply, IsReport, IsStopLine, IsLargeLine, FileFailed, IsReadPath}
+use Rattle.ot_program.specs.Answer.{IsFailedPath, IsFailureLine, WritesLine, Outputs, IsOutput, SaysWhy, IsErrorLine}
+use Rattle.ot_program.specs.Answer.{Failures}
+use Rattle.ot_program.specs.Verdicts.{IsReplyOf, IsTextOf, IsSilent, Writes, Ends, error_line}
 use Rattle.ot_program.specs.declared.status.Status.{Status}
 use Rattle.ot_program.specs.declared.status.Status.TheVariants.{Accepted, Refused, Usage, NoFile}
 use Rattle.ot_program.specs.declared.status.Status.TheVariants.{ReadFault, WriteFault, Memory}
-use Rattle.ot_program.proofs.Options.{untold, mapped, if_some}
+use Rattle.ot_program.proofs.Options.{unknown, mapped, if_some}
 
 -- ---- a verdict and the stated reply
 
-report_reply : (t : TaskValue) (told : Told t) (text : List ℕ) → IsReport t told text
-    → IfSome told (λ answer. IsReplyOf Accepted text (reply_to t answer))
-report_reply t told text report =
-    if_some (λ answer. answer ≡ Ok report.made) (λ answer. IsReplyOf Accepted text (reply_to t answer)) told
+report_reply : (t : TaskValue) (known : KnownResult t) (text : List ℕ) → IsReport t known text
+    → IfSome known (λ answer. IsReplyOf Accepted text (reply_to t answer))
+report_reply t known text report =
+    if_some (λ answer. answer ≡ Ok report.made) (λ answer. IsReplyOf Accepted text (reply_to t answer)) known
     (λ answer is. ap (reply_to t) is ∙ rw report.fits_is (ap accepted (sym report.text_is))) report.ended
 
-stop_reply : (t : TaskValue) (status : Status) (told : Told t) (line : List ℕ) → IsStopLine status t told line
-    → IfSome told (λ answer. reply_to t answer ≡ fails status line)
-stop_reply t status told line stop =
-    if_some (λ answer. answer ≡ Err stop.stop) (λ answer. reply_to t answer ≡ fails status line) told
+stop_reply : (t : TaskValue) (status : Status) (known : KnownResult t) (line : List ℕ) → IsStopLine status t known line
+    → IfSome known (λ answer. reply_to t answer ≡ fails status line)
+stop_reply t status known line stop =
+    if_some (λ answer. answer ≡ Err stop.stop) (λ answer. reply_to t answer ≡ fails status line) known
     (λ answer is. ap (reply_to t) is ∙ (λ i. fails (stop.status_is i) (sym stop.line_is i))) stop.stopped
 
-large_reply : (t : TaskValue) (told : Told t) (line : List ℕ) → IsLargeLine t told line
-    → IfSome told (λ answer. reply_to t answer ≡ fails Refused line)
-large_reply t told line large =
-    if_some (λ answer. answer ≡ Ok large.made) (λ answer. reply_to t answer ≡ fails Refused line) told
+large_reply : (t : TaskValue) (known : KnownResult t) (line : List ℕ) → IsLargeLine t known line
+    → IfSome known (λ answer. reply_to t answer ≡ fails Refused line)
+large_reply t known line large =
+    if_some (λ answer. answer ≡ Ok large.made) (λ answer. reply_to t answer ≡ fails Refused line) known
     (λ answer is. ap (reply_to t) is ∙ rw large.large (ap (fails Refused) (sym large.line_is))) large.ended
 
-replies : (t : TaskValue) (folder : Option Folder) (input at : Option (List ℕ)) (status : Status) (text : List ℕ)
-    → Says status t folder input at text
+replies : (t : TaskValue) (folder : Option Folder) (input : Option (List ℕ)) (I : Type 0) (F : List ℕ → Type 0)
+    (status : Status) (text : List ℕ)
+    → IsTextOf status t folder input I F text
     → IfSome (result_of t folder input) (λ answer. IsReplyOf status text (reply_to t answer))
-replies t folder input at Accepted text says = report_reply t (result_of t folder input) text says
-replies t folder input at Refused text (inl stop) = stop_reply t Refused (result_of t folder input) text stop
-replies t folder input at Refused text (inr large) = large_reply t (result_of t folder input) text large
-replies t folder input at NoFile text says = stop_reply t NoFile (result_of t folder input) text says
-replies t folder input at ReadFault text says = untold (result_of t folder input)
-replies t folder input at Usage text says = absurd says
-replies t folder input at WriteFault text says = absurd says
-replies t folder input at Memory text says = absurd says
+replies t folder input I F Accepted text says = report_reply t (result_of t folder input) text says
+replies t folder input I F Refused text (inl stop) = stop_reply t Refused (result_of t folder input) text stop
+replies t folder input I F Refused text (inr large) = large_reply t (result_of t folder input) text large
+replies t folder input I F NoFile text says = stop_reply t NoFile (result_of t folder input) text says
+replies t folder input I F ReadFault text says = unknown (result_of t folder input)
+replies t folder input I F Usage text says = absurd says
+replies t folder input I F WriteFault text says = absurd says
+replies t folder input I F Memory text says = absurd says
 
 -- what holds of the verdict's reply holds of the answer to the words
 replied : (words : List (List ℕ)) (t : TaskValue) (folder : Option Folder)
-    (input at : Option (List ℕ)) (status : Status) (text : List ℕ) (P : Reply → Type 0)
-    → task_of words ≡ Some t → Says status t folder input at text
+    (input : Option (List ℕ)) (I : Type 0) (F : List ℕ → Type 0) (status : Status) (text : List ℕ)
+    (P : Reply → Type 0)
+    → task_of words ≡ Some t → IsTextOf status t folder input I F text
     → ((reply : Reply) → IsReplyOf status text reply → P reply)
     → IfSome (answer words folder input) P
-replied words t folder input at status text P read says then =
+replied words t folder input I F status text P read says then =
     rw read (mapped (reply_to t) P (result_of t folder input)
     (if_some (λ answer. IsReplyOf status text (reply_to t answer)) (λ answer. P (reply_to t answer))
     (result_of t folder input) (λ answer is. then (reply_to t answer) is)
-    (replies t folder input at status text says)))
+    (replies t folder input I F status text says)))
 
--- ---- status and output
+-- ---- status, output and the line
 
-same_matches : (status : Status) (text : List ℕ) (old new : Option (List ℕ)) → Writes status old new text
-    → (reply : Reply)
-    → IsReplyOf status text reply → MatchesReply status reply old new
-same_matches Accepted text old new writes reply is = (
+-- the line on standard error, where it says why nothing is accepted
+abbrev IsLined : {E : Type 0} → (E → Option (List ℕ)) → (E → ℕ) → E → E → List ℕ → Status → Type 0
+IsLined written faults old new text status = IfSome (error_line text status) (WritesLine written faults old new)
+
+same_matches : {E : Type 0} (written : E → Option (List ℕ)) (faults : E → ℕ) (err err' : E) (status : Status)
+    (text : List ℕ) (old new : Option (List ℕ)) → Writes status old new text
+    → IsLined written faults err err' text status → (reply : Reply)
+    → IsReplyOf status text reply → MatchesReply status reply old new (WritesLine written faults err err')
+same_matches written faults err err' Accepted text old new writes line reply is = (
   ap (λ r. r.status) is,
   subst (λ (r : Reply). Appends old new r.output) (sym is) writes,
 )
-same_matches Refused text old new writes reply is = ap (λ r. r.status) is
-same_matches NoFile text old new writes reply is = ap (λ r. r.status) is
-same_matches ReadFault text old new writes reply is = tt
-same_matches Usage text old new writes reply is = absurd is
-same_matches WriteFault text old new writes reply is = absurd is
-same_matches Memory text old new writes reply is = absurd is
-
-front_matches : (text : List ℕ) (old new : Option (List ℕ)) → AppendsFront old new text → (reply : Reply)
-    → reply ≡ accepted text
-    → MatchesReply WriteFault reply old new
-front_matches text old new writes reply is = (
+same_matches written faults err err' Refused text old new writes line reply is = (
   ap (λ r. r.status) is,
-  subst (λ (r : Reply). AppendsFront old new r.output) (sym is) writes,
+  subst (λ (r : Reply). WritesLine written faults err err' r.error) (sym is) line,
+)
+same_matches written faults err err' NoFile text old new writes line reply is = (
+  ap (λ r. r.status) is,
+  subst (λ (r : Reply). WritesLine written faults err err' r.error) (sym is) line,
+)
+same_matches written faults err err' ReadFault text old new writes line reply is = tt
+same_matches written faults err err' Usage text old new writes line reply is = absurd is
+same_matches written faults err err' WriteFault text old new writes line reply is = absurd is
+same_matches written faults err err' Memory text old new writes line reply is = absurd is
+
+front_matches : {E : Type 0} (written : E → Option (List ℕ)) (faults : E → ℕ) (err err' : E) (text : List ℕ)
+    (old new : Option (List ℕ)) → AppendsFront old new text → (reply : Reply) → reply ≡ accepted text
+    → MatchesReply WriteFault reply old new (WritesLine written faults err err')
+front_matches written faults err err' text old new front reply is = (
+  ap (λ r. r.status) is,
+  subst (λ (r : Reply). AppendsFront old new r.output) (sym is) front,
 )
 
-matches : (verdict status : Status) (text : List ℕ) (old new : Option (List ℕ)) → Ends verdict status
-    → Writes status old new text
-    → (reply : Reply) → IsReplyOf verdict text reply → MatchesReply status reply old new
-matches verdict status text old new (inl same) writes reply is =
-    subst (λ (s : Status). MatchesReply s reply old new) (sym same)
-    (same_matches verdict text old new (subst (λ (s : Status). Writes s old new text) same writes) reply is)
-matches verdict status text old new (inr failed) writes reply is =
-    subst (λ (s : Status). MatchesReply s reply old new) (sym failed.1)
-    (front_matches text old new (subst (λ (s : Status). Writes s old new text) failed.1 writes)
-    reply (subst (λ (s : Status). IsReplyOf s text reply) failed.0 is))
+module _ {E : Type 0} (written : E → Option (List ℕ)) (faults : E → ℕ) (err err' : E) where
+  matches : (verdict status : Status) (text : List ℕ) (old new : Option (List ℕ)) → Ends verdict status
+      → Writes status old new text → IsLined written faults err err' text status
+      → (reply : Reply) → IsReplyOf verdict text reply
+      → MatchesReply status reply old new (WritesLine written faults err err')
+  matches verdict status text old new (inl same) writes line reply is =
+      subst (λ (s : Status). MatchesReply s reply old new (WritesLine written faults err err')) (sym same)
+      (same_matches written faults err err' verdict text old new
+      (subst (λ (s : Status). Writes s old new text) same writes)
+      (subst (IsLined written faults err err' text) same line) reply is)
+  matches verdict status text old new (inr failed) writes line reply is =
+      subst (λ (s : Status). MatchesReply s reply old new (WritesLine written faults err err')) (sym failed.1)
+      (front_matches written faults err err' text old new
+      (subst (λ (s : Status). Writes s old new text) failed.1 writes)
+      reply (subst (λ (s : Status). IsReplyOf s text reply) failed.0 is))
 
-pub answers : (words : List (List ℕ)) (t : TaskValue) (folder : Option Folder)
-    (input at : Option (List ℕ)) (verdict status : Status) (text : List ℕ) (old new : Option (List ℕ))
-    → task_of words ≡ Some t → Says verdict t folder input at text → Ends verdict status → Writes status old new text
-    → IfSome (answer words folder input) (λ reply. MatchesReply status reply old new)
-answers words t folder input at verdict status text old new read says ends writes =
-    replied words t folder input at verdict text (λ reply. MatchesReply status reply old new)
-    read says (matches verdict status text old new ends writes)
+  pub answers : (words : List (List ℕ)) (t : TaskValue) (folder : Option Folder)
+      (input : Option (List ℕ)) (I : Type 0) (F : List ℕ → Type 0) (verdict status : Status) (text : List ℕ)
+      (old new : Option (List ℕ))
+      → task_of words ≡ Some t → IsTextOf verdict t folder input I F text → Ends verdict status
+      → Writes status old new text → IsLined written faults err err' text status
+      → IfSome (answer words folder input)
+      (λ reply. MatchesReply status reply old new (WritesLine written faults err err'))
+  answers words t folder input I F verdict status text old new read says ends writes line =
+      replied words t folder input I F verdict text
+      (λ reply. MatchesReply status reply old new (WritesLine written faults err err'))
+      read says (matches verdict status text old new ends writes line)
 
--- ---- the line on standard error
+-- ---- what is written
 
-same_error : {E : Type 0} (written : E → Option (List ℕ)) (faults : E → ℕ) (old new : E) (status : Status)
-    (text : List ℕ)
-    → IsVerdict status → IfSome (error_line text status) (WritesLine written faults old new) → (reply : Reply)
-    → IsReplyOf status text reply → WritesLine written faults old new reply.error
-same_error written faults old new Refused text verdict line reply is =
-    subst (λ (r : Reply). WritesLine written faults old new r.error) (sym is) line
-same_error written faults old new NoFile text verdict line reply is =
-    subst (λ (r : Reply). WritesLine written faults old new r.error) (sym is) line
-same_error written faults old new Accepted text verdict line reply is = absurd verdict
-same_error written faults old new ReadFault text verdict line reply is = absurd verdict
-same_error written faults old new Usage text verdict line reply is = absurd verdict
-same_error written faults old new WriteFault text verdict line reply is = absurd verdict
-same_error written faults old new Memory text verdict line reply is = absurd verdict
+module _ {O : Type 0} (written : O → Option (List ℕ)) (flushed : O → Option ℕ) (old new : O) (t : TaskValue)
+    (folder : Option Folder) (input : Option (List ℕ)) (I : Type 0) (F : List ℕ → Type 0) where
+  abbrev PutsOut : Status → Type 0
+  PutsOut status = Outputs status written flushed old new (IsOutput (Some t) folder input)
 
-pub error_is : {E : Type 0} (written : E → Option (List ℕ)) (faults : E → ℕ) (old new : E) (words : List (List ℕ))
-    (t : TaskValue) (folder : Option Folder) (input at : Option (List ℕ)) (verdict status : Status) (text : List ℕ)
-    → task_of words ≡ Some t → Says verdict t folder input at text → Ends verdict status
-    → IfSome (error_line text status) (WritesLine written faults old new) → IsVerdict status
-    → IfSome (answer words folder input) (λ reply. WritesLine written faults old new reply.error)
-error_is written faults old new words t folder input at verdict status text read says (inl same) line refuses =
-    replied words t folder input at verdict text (λ reply. WritesLine written faults old new reply.error) read says
-    (same_error written faults old new verdict text (subst IsVerdict same refuses)
-    (subst (λ (s : Status). IfSome (error_line text s) (WritesLine written faults old new)) same line))
-error_is written faults old new words t folder input at verdict status text read says (inr failed) line refuses =
-    absurd (subst IsVerdict failed.1 refuses)
+  same_outputs : (status : Status) (text : List ℕ) → IsTextOf status t folder input I F text
+      → Writes status (written old) (written new) text → (IsSilent status → new ≡ old)
+      → (status ≡ Accepted → FlushesAll (flushed old) (written new) (flushed new)) → PutsOut status
+  same_outputs Accepted text says writes silent flushes =
+      record { text = text; is_one = says; is_put = (writes, flushes refl) }
+  same_outputs Refused text says writes silent flushes = silent tt
+  same_outputs NoFile text says writes silent flushes = silent tt
+  same_outputs ReadFault text says writes silent flushes = silent tt
+  same_outputs Usage text says writes silent flushes = absurd says
+  same_outputs WriteFault text says writes silent flushes = absurd says
+  same_outputs Memory text says writes silent flushes = absurd says
 
--- a line on standard error, where the words ask for this task
-abbrev Lined : {E : Type 0} → (E → Option (List ℕ)) → (E → ℕ) → E → E → Option TaskValue → Option Folder
-    → Option (List ℕ)
-    → Option (List ℕ) → Status → Type 0
-Lined written faults old new command folder input at status =
-    WritesSome (IsLine status command folder input at) written faults old new
+  outputs : (verdict status : Status) (text : List ℕ) → IsTextOf verdict t folder input I F text
+      → Ends verdict status → Writes status (written old) (written new) text → (IsSilent status → new ≡ old)
+      → (status ≡ Accepted → FlushesAll (flushed old) (written new) (flushed new)) → PutsOut status
+  outputs verdict status text says (inl same) writes silent flushes =
+      subst PutsOut (sym same)
+      (same_outputs verdict text says
+      (subst (λ (s : Status). Writes s (written old) (written new) text) same writes)
+      (subst (λ (s : Status). IsSilent s → new ≡ old) same silent) (λ is. flushes (same ∙ is)))
+  outputs verdict status text says (inr failed) writes silent flushes =
+      subst PutsOut (sym failed.1) (record {
+        text = text;
+        is_one = subst (λ (s : Status). IsTextOf s t folder input I F text) failed.0 says;
+        is_put = subst (λ (s : Status). Writes s (written old) (written new) text) failed.1 writes;
+      })
 
-same_line : {E : Type 0} (written : E → Option (List ℕ)) (faults : E → ℕ) (old new : E) (t : TaskValue)
-    (folder : Option Folder) (input at : Option (List ℕ)) (status : Status) (text : List ℕ)
-    → Says status t folder input at text → IfSome (error_line text status) (WritesLine written faults old new)
-    → ¬ (status ≡ Accepted) → Lined written faults old new (Some t) folder input at status
-same_line written faults old new t folder input at Accepted text says line loud = absurd (loud refl)
-same_line written faults old new t folder input at Refused text says line loud = record {
-  line = text;
-  is_one = says;
-  writes = line;
-}
-same_line written faults old new t folder input at NoFile text says line loud = record {
-  line = text;
-  is_one = says;
-  writes = line;
-}
-same_line written faults old new t folder input at ReadFault text says line loud = record {
-  line = text;
-  is_one = says;
-  writes = line;
-}
-same_line written faults old new t folder input at Usage text says line loud = absurd says
-same_line written faults old new t folder input at WriteFault text says line loud = absurd says
-same_line written faults old new t folder input at Memory text says line loud = absurd says
+  pub output_is : (words : List (List ℕ)) (verdict status : Status) (text : List ℕ) → task_of words ≡ Some t
+      → IsTextOf verdict t folder input I F text → Ends verdict status
+      → Writes status (written old) (written new) text → (IsSilent status → new ≡ old)
+      → (status ≡ Accepted → FlushesAll (flushed old) (written new) (flushed new))
+      → Outputs status written flushed old new (IsOutput (task_of words) folder input)
+  output_is words verdict status text read says ends writes silent flushes =
+      rw read (outputs verdict status text says ends writes silent flushes)
 
-front_line : {E : Type 0} (written : E → Option (List ℕ)) (faults : E → ℕ) (old new : E)
-    (t : TaskValue) (folder : Option Folder) (input at : Option (List ℕ))
-    → WritesLine written faults old new write_fault_line
-    → Lined written faults old new (Some t) folder input at WriteFault
-front_line written faults old new t folder input at line =
-    record { line = write_fault_line; is_one = refl; writes = line }
+-- ---- what is said
 
-ends_line : {E : Type 0} (written : E → Option (List ℕ)) (faults : E → ℕ) (old new : E) (t : TaskValue)
-    (folder : Option Folder) (input at : Option (List ℕ)) (verdict status : Status) (text : List ℕ)
-    → Says verdict t folder input at text → Ends verdict status
-    → IfSome (error_line text status) (WritesLine written faults old new) → ¬ (status ≡ Accepted)
-    → Lined written faults old new (Some t) folder input at status
-ends_line written faults old new t folder input at verdict status text says (inl same) line loud =
-    subst (Lined written faults old new (Some t) folder input at) (sym same)
-    (same_line written faults old new t folder input at verdict text says
-    (subst (λ (s : Status). IfSome (error_line text s) (WritesLine written faults old new)) same line)
-    (λ is. loud (same ∙ is)))
-ends_line written faults old new t folder input at verdict status text says (inr failed) line loud =
-    subst (Lined written faults old new (Some t) folder input at) (sym failed.1)
-    (front_line written faults old new t folder input at
-    (subst (λ (s : Status). IfSome (error_line text s) (WritesLine written faults old new)) failed.1 line))
+module _ {E : Type 0} (written : E → Option (List ℕ)) (faults : E → ℕ) (old new : E) (t : TaskValue)
+    (folder : Option Folder) (input : Option (List ℕ)) (d : Failures) where
+  abbrev SaysOf : Status → Type 0
+  SaysOf status = SaysWhy status written faults old new (IsErrorLine status (Some t) folder input d)
 
-pub line_is : {E : Type 0} (written : E → Option (List ℕ)) (faults : E → ℕ) (old new : E) (words : List (List ℕ))
-    (t : TaskValue) (folder : Option Folder) (input at : Option (List ℕ)) (verdict status : Status) (text : List ℕ)
-    → task_of words ≡ Some t → Says verdict t folder input at text → Ends verdict status
-    → IfSome (error_line text status) (WritesLine written faults old new) → ¬ (status ≡ Accepted)
-    → WritesSome (IsLine status (task_of words) folder input at) written faults old new
-line_is written faults old new words t folder input at verdict status text read says ends line loud =
-    rw read (ends_line written faults old new t folder input at verdict status text says ends line loud)
+  same_why : (status : Status) (text : List ℕ) → IsTextOf status t folder input d.input d.file text
+      → (status ≡ NoFile → d.missing) → IsLined written faults old new text status
+      → (status ≡ Accepted → new ≡ old) → SaysOf status
+  same_why Accepted text says missing line quiet = quiet refl
+  same_why Refused text says missing line quiet = record { text = text; is_one = says; is_put = line }
+  same_why NoFile text says missing line quiet =
+      record { text = text; is_one = (says, missing refl); is_put = line }
+  same_why ReadFault text says missing line quiet = record { text = text; is_one = says; is_put = line }
+  same_why Usage text says missing line quiet = absurd says
+  same_why WriteFault text says missing line quiet = absurd says
+  same_why Memory text says missing line quiet = absurd says
+
+  why : (verdict status : Status) (text : List ℕ) → IsTextOf verdict t folder input d.input d.file text
+      → (verdict ≡ NoFile → d.missing) → Ends verdict status → IsLined written faults old new text status
+      → (status ≡ Accepted → new ≡ old) → (status ≡ WriteFault → d.output) → SaysOf status
+  why verdict status text says missing (inl same) line quiet unwritten =
+      subst SaysOf (sym same)
+      (same_why verdict text says missing (subst (IsLined written faults old new text) same line)
+      (λ is. quiet (same ∙ is)))
+  why verdict status text says missing (inr failed) line quiet unwritten =
+      subst SaysOf (sym failed.1) (record {
+        text = write_fault_line;
+        is_one = (refl, unwritten failed.1);
+        is_put = subst (IsLined written faults old new text) failed.1 line;
+      })
+
+  pub why_is : (words : List (List ℕ)) (verdict status : Status) (text : List ℕ) → task_of words ≡ Some t
+      → IsTextOf verdict t folder input d.input d.file text → (verdict ≡ NoFile → d.missing) → Ends verdict status
+      → IsLined written faults old new text status → (status ≡ Accepted → new ≡ old)
+      → (status ≡ WriteFault → d.output)
+      → SaysWhy status written faults old new (IsErrorLine status (task_of words) folder input d)
+  why_is words verdict status text read says missing ends line quiet unwritten =
+      rw read (why verdict status text says missing ends line quiet unwritten)
+
+-- ---- a read fault where no count rose
+
+no_read_path : (path : List ℕ) (files : Option (List (List ℕ))) (at : Option (List ℕ)) (i j f g : ℕ)
+    (failed : List ℕ) → ¬ CountRose i j → ¬ CountRose f g
+    → ¬ IsReadPath path files (CountRose i j) (FileFailed at f g) failed
+no_read_path path files at i j f g failed input all is = go (is_standard path) is where
+  go : (b : Bool)
+      → ¬ MatchBool b ((failed ≡ path) × CountRose i j) (IfSome files (IsMember failed) × FileFailed at f g failed)
+  go true is = input is.1
+  go false is = all is.1.0
+
+no_failed_path : (t : TaskValue) (folder : Option Folder) (input at : Option (List ℕ)) (i j f g : ℕ)
+    (failed : List ℕ) → ¬ CountRose i j → ¬ CountRose f g
+    → ¬ IsFailedPath t folder input (CountRose i j) (FileFailed at f g) failed
+no_failed_path (ReadLines packages path text) folder input at i j f g failed no_input no_file (inl is) =
+    no_read_path path (opened (ReadLines packages path text) folder) at i j f g failed no_input no_file is
+no_failed_path (ReadLines packages path text) folder input at i j f g failed no_input no_file (inr is) =
+    no_file is.2.0
+no_failed_path (FindPattern packages pattern path) folder input at i j f g failed no_input no_file (inl is) =
+    no_read_path path (opened (FindPattern packages pattern path) folder) at i j f g failed no_input no_file is.0
+no_failed_path (FindPattern packages pattern path) folder input at i j f g failed no_input no_file (inr is) =
+    no_file is.2.0
+no_failed_path t folder input at i j f g failed no_input no_file is =
+    no_read_path (input_of t) (opened t folder) at i j f g failed no_input no_file is
+
+no_read_fault : (t : TaskValue) (folder : Option Folder) (input at : Option (List ℕ)) (verdict : Status)
+    (text : List ℕ) (i j f g : ℕ) → ¬ CountRose i j → ¬ CountRose f g
+    → IsTextOf verdict t folder input (CountRose i j) (FileFailed at f g) text → ¬ (verdict ≡ ReadFault)
+no_read_fault t folder input at verdict text i j f g no_input no_file says is =
+    let line : IsFailureLine t folder input (CountRose i j) (FileFailed at f g) text =
+    subst (λ (s : Status). IsTextOf s t folder input (CountRose i j) (FileFailed at f g) text) is says in
+    no_failed_path t folder input at i j f g line.failed no_input no_file line.path
 
 -- ---- completeness
 
--- with this status some count rose
-abbrev pub IsTold : Status → Status → Type 0
-IsTold status told = (status ≡ Memory) ⊎ (status ≡ told)
+-- memory ran out, or the status is the known one
+abbrev pub IsMemoryOr : Status → Status → Type 0
+IsMemoryOr status known = (status ≡ Memory) ⊎ (status ≡ known)
 
-same_told : (verdict : Status) (text : List ℕ) → ¬ (verdict ≡ ReadFault) → (reply : Reply)
+same_stated : (verdict : Status) (text : List ℕ) → ¬ (verdict ≡ ReadFault) → (reply : Reply)
     → IsReplyOf verdict text reply
     → verdict ≡ reply.status
-same_told Accepted text read reply is = sym (ap (λ r. r.status) is)
-same_told Refused text read reply is = sym (ap (λ r. r.status) is)
-same_told NoFile text read reply is = sym (ap (λ r. r.status) is)
-same_told ReadFault text read reply is = absurd (read refl)
-same_told Usage text read reply is = absurd is
-same_told WriteFault text read reply is = absurd is
-same_told Memory text read reply is = absurd is
+same_stated Accepted text read reply is = sym (ap (λ r. r.status) is)
+same_stated Refused text read reply is = sym (ap (λ r. r.status) is)
+same_stated NoFile text read reply is = sym (ap (λ r. r.status) is)
+same_stated ReadFault text read reply is = absurd (read refl)
+same_stated Usage text read reply is = absurd is
+same_stated WriteFault text read reply is = absurd is
+same_stated Memory text read reply is = absurd is
 
 completes : (verdict status : Status) (text : List ℕ) → Ends verdict status → ¬ (status ≡ WriteFault)
     → ¬ (verdict ≡ ReadFault)
-    → (reply : Reply) → IsReplyOf verdict text reply → IsTold status reply.status
-completes verdict status text (inl same) written read reply is = inr (same ∙ same_told verdict text read reply is)
+    → (reply : Reply) → IsReplyOf verdict text reply → IsMemoryOr status reply.status
+completes verdict status text (inl same) written read reply is = inr (same ∙ same_stated verdict text read reply is)
 completes verdict status text (inr failed) written read reply is = absurd (written failed.1)
-
-neither : (b : Bool) (P Q : Type 0) → ¬ P → ¬ Q → ¬ MatchBool b P Q
-neither true P Q p q held = p held
-neither false P Q p q held = q held
-
-no_failure : (t : TaskValue) (i j f g : ℕ) → ¬ CountRose i j → ¬ CountRose f g → ¬ FailedIn t i j f g
-no_failure (RunInput packages path view) i j f g input files failed =
-    neither (is_standard path) (CountRose i j) (CountRose f g) input files failed
-no_failure (RunSample n) i j f g input files failed =
-    neither (is_standard sample_path) (CountRose i j) (CountRose f g) input files failed
-no_failure (MakeSample n) i j f g input files failed =
-    neither (is_standard sample_path) (CountRose i j) (CountRose f g) input files failed
-no_failure (CheckLog path) i j f g input files failed =
-    neither (is_standard path) (CountRose i j) (CountRose f g) input files failed
-no_failure (ShowReadable packages path) i j f g input files failed =
-    neither (is_standard path) (CountRose i j) (CountRose f g) input files failed
-no_failure (ReadLines packages path text) i j f g input files (inl failed) =
-    neither (is_standard path) (CountRose i j) (CountRose f g) input files failed
-no_failure (ReadLines packages path text) i j f g input files (inr failed) = files failed
-no_failure (FindPattern packages pattern path) i j f g input files failed =
-    neither (is_standard path) (CountRose i j) (CountRose f g) input files failed
 
 pub complete : (words : List (List ℕ)) (t : TaskValue) (folder : Option Folder)
     (input at : Option (List ℕ)) (verdict status : Status) (text : List ℕ) (i j f g o p : ℕ)
-    → task_of words ≡ Some t → Says verdict t folder input at text → Ends verdict status
-    → (verdict ≡ ReadFault → FailedIn t i j f g) → (status ≡ WriteFault → CountRose o p)
+    → task_of words ≡ Some t → IsTextOf verdict t folder input (CountRose i j) (FileFailed at f g) text
+    → Ends verdict status
+    → (status ≡ WriteFault → CountRose o p)
     → IfSome (answer words folder input) (λ reply. ¬ CountRose i j → ¬ CountRose f g → ¬ CountRose o p
-    → IsTold status reply.status)
-complete words t folder input at verdict status text i j f g o p read says ends failed unwritten =
-    replied words t folder input at verdict text
-    (λ reply. ¬ CountRose i j → ¬ CountRose f g → ¬ CountRose o p → IsTold status reply.status) read says
-    (λ reply is input files out. completes verdict status text ends
-    (λ w. out (unwritten w)) (λ r. no_failure t i j f g input files (failed r)) reply is)
+    → IsMemoryOr status reply.status)
+complete words t folder input at verdict status text i j f g o p read says ends unwritten =
+    replied words t folder input (CountRose i j) (FileFailed at f g) verdict text
+    (λ reply. ¬ CountRose i j → ¬ CountRose f g → ¬ CountRose o p → IsMemoryOr status reply.status) read says
+    (λ reply is no_input no_file written. completes verdict status text ends (λ w. written (unwritten w))
+    (no_read_fault t folder input at verdict text i j f g no_input no_file says) reply is)
 
 -- ---- other statuses
 

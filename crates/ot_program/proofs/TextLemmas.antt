@@ -36,6 +36,6 @@ symbol_added (Ok u) k kind n m old mid new word name all =
 pub fault_line_is : (o : Option (Fault Name)) (path : List ℕ) (number : ℕ) (start mid line : List ℕ)
     → start ≡ line_start path number → IsSomeAnd o (λ f. mid ≡ start ++ fault_text f) → line ≡ mid ++ codes "\n"
     → IsSomeAnd o (λ f. line ≡ fault_line path number f)
-fault_line_is None path number start mid line begins told ends = absurd told
-fault_line_is (Some f) path number start mid line begins told ends =
-    ends ∙ ap (λ xs. xs ++ codes "\n") (told ∙ ap (λ xs. xs ++ fault_text f) begins) ∙ simp append_assoc
+fault_line_is None path number start mid line begins known ends = absurd known
+fault_line_is (Some f) path number start mid line begins known ends =
+    ends ∙ ap (λ xs. xs ++ codes "\n") (known ∙ ap (λ xs. xs ++ fault_text f) begins) ∙ simp append_assoc

@@ -10,9 +10,9 @@ use Rattle.ot_program.specs.Reply.{ReadLines, FindPattern, LogStop, InLog, NoLog
 use Rattle.ot_program.specs.Reply.{TextTooLarge, InLine, FindStop, InRequired, InRun, InPattern}
 use Rattle.ot_program.specs.Reply.{required_status, find_status, over_line, Product, Halt, result_of, text_of}
 use Rattle.ot_program.specs.Reply.{fits, stop_status, log_status, read_status, halt_status, halt_line}
-use Rattle.ot_program.specs.Answer.{IsOwnHalt, LastPath, Says}
-use Rattle.ot_program.specs.Verdicts.{End, Finished, Stopped, Failed, IsEnd, IsPlace, HasCause}
-use Rattle.ot_program.specs.Verdicts.{IsSaid, IsFinal, IsVerdictOn, IsVerdictOf, IsTaskVerdict}
+use Rattle.ot_program.specs.Answer.{IsOwnHalt, IsFailedPath, LastPath}
+use Rattle.ot_program.specs.Verdicts.{End, Finished, Stopped, Failed, IsEnd, HasTaskCause}
+use Rattle.ot_program.specs.Verdicts.{IsSaid, IsFinal, IsVerdictOn, IsVerdictOf, IsTextOf, IsTaskVerdict}
 use Rattle.ot_program.specs.declared.report.Verdict.{Verdict}
 use Rattle.ot_program.specs.declared.status.Status.{Status}
 use Rattle.ot_program.specs.declared.status.Status.TheVariants.{Accepted, Refused, NoFile, ReadFault}
@@ -66,52 +66,59 @@ refusal (FindPattern packages pattern path) s = find_refusal s
 -- ---- what the text of a verdict says
 
 -- the line of a stop
-stop_says : (t : TaskValue) (folder : Option Folder) (input at : Option (List ℕ)) (s : Halt t) (line : List ℕ)
+stop_says : (t : TaskValue) (folder : Option Folder) (input : Option (List ℕ)) (I : Type 0)
+    (F : List ℕ → Type 0) (s : Halt t) (line : List ℕ)
     → line ≡ halt_line t s → IfSome (result_of t folder input) (λ answer. answer ≡ Err s) → IsOwnHalt t s
-    → IsRefusal (halt_status t s) → Says (halt_status t s) t folder input at line
-stop_says t folder input at s line is told own (inl e) =
-    let P : Status → Type 0 = λ status. Says status t folder input at line in
-    subst P (sym e) (inl (record { stop = s; stopped = told; own = own; status_is = e; line_is = is }))
-stop_says t folder input at s line is told own (inr e) =
-    let P : Status → Type 0 = λ status. Says status t folder input at line in
-    subst P (sym e) (record { stop = s; stopped = told; own = own; status_is = e; line_is = is })
+    → IsRefusal (halt_status t s) → IsTextOf (halt_status t s) t folder input I F line
+stop_says t folder input I F s line is known own (inl e) =
+    let P : Status → Type 0 = λ status. IsTextOf status t folder input I F line in
+    subst P (sym e) (inl (record { stop = s; stopped = known; own = own; status_is = e; line_is = is }))
+stop_says t folder input I F s line is known own (inr e) =
+    let P : Status → Type 0 = λ status. IsTextOf status t folder input I F line in
+    subst P (sym e) (record { stop = s; stopped = known; own = own; status_is = e; line_is = is })
 
 -- the text of a task that ended, by whether it is within the limit
-final_says : (t : TaskValue) (folder : Option Folder) (input at : Option (List ℕ)) (x : Product t) (v : Verdict)
+final_says : (t : TaskValue) (folder : Option Folder) (input : Option (List ℕ)) (I : Type 0)
+    (F : List ℕ → Type 0) (x : Product t) (v : Verdict)
     (b : Bool)
     → fits t x ≡ b → MatchBool b (IsSaid v Accepted (text_of t x)) (IsSaid v Refused (over_line t))
     → IsFinal t x v → IfSome (result_of t folder input) (λ answer. answer ≡ Ok x)
-    → Says v.status t folder input at v.text.items
-final_says t folder input at x v true fit said final told =
-    let P : Status → Type 0 = λ s. Says s t folder input at v.text.items in
+    → IsTextOf v.status t folder input I F v.text.items
+final_says t folder input I F x v true fit said final known =
+    let P : Status → Type 0 = λ s. IsTextOf s t folder input I F v.text.items in
     subst P (sym said.status_is) (record {
       made = x;
-      ended = told;
+      ended = known;
       proved = final.proved;
       promised = final.promised fit;
       one_text = final.one_text;
-      one_in_front = final.one_in_front;
       fits_is = fit;
       text_is = said.text_is;
     })
-final_says t folder input at x v false fit said final told =
-    let P : Status → Type 0 = λ s. Says s t folder input at v.text.items in
-    subst P (sym said.status_is) (inr (record { made = x; ended = told; large = fit; line_is = said.text_is }))
+final_says t folder input I F x v false fit said final known =
+    let P : Status → Type 0 = λ s. IsTextOf s t folder input I F v.text.items in
+    subst P (sym said.status_is) (inr (record {
+      made = x;
+      ended = known;
+      proved = final.proved;
+      large = fit;
+      line_is = said.text_is;
+    }))
 
-verdict_says : (t : TaskValue) (folder : Option Folder) (input at : Option (List ℕ)) (e : End (Product t) (Halt t))
-    (v : Verdict)
-    → IsVerdictOn t v e → IsEnd t folder input e → IsPlace t folder at e
-    → Says v.status t folder input at v.text.items
-verdict_says t folder input at (Finished x) v on told place =
-    final_says t folder input at x v (fits t x) refl on.ends on told
-verdict_says t folder input at (Stopped s) v on told place =
-    let P : Status → Type 0 = λ status. Says status t folder input at v.text.items in
-    subst P (sym on.status_is) (stop_says t folder input at s v.text.items on.text_is told place (refusal t s))
-verdict_says t folder input at (Failed path) v on told place =
-    let P : Status → Type 0 = λ status. Says status t folder input at v.text.items in
-    subst P (sym on.status_is) (record { failed = path; path = place; line_is = on.text_is })
+verdict_says : (t : TaskValue) (folder : Option Folder) (input : Option (List ℕ)) (I : Type 0)
+    (F : List ℕ → Type 0) (Q : Type 0) (e : End (Product t) (Halt t)) (v : Verdict)
+    → IsVerdictOn t v e → IsEnd t folder input e → HasTaskCause t folder input I F Q e
+    → IsTextOf v.status t folder input I F v.text.items
+verdict_says t folder input I F Q (Finished x) v on known cause =
+    final_says t folder input I F x v (fits t x) refl on.ends on known
+verdict_says t folder input I F Q (Stopped s) v on known cause =
+    let P : Status → Type 0 = λ status. IsTextOf status t folder input I F v.text.items in
+    subst P (sym on.status_is) (stop_says t folder input I F s v.text.items on.text_is known cause.0 (refusal t s))
+verdict_says t folder input I F Q (Failed path) v on known cause =
+    let P : Status → Type 0 = λ status. IsTextOf status t folder input I F v.text.items in
+    subst P (sym on.status_is) (record { failed = path; path = cause; line_is = on.text_is })
 
--- ---- the causes of its status
+-- ---- the cause of its status
 
 -- a task that ended is accepted or refused
 ended_status : (v : Verdict) (b : Bool) (text line : List ℕ)
@@ -119,68 +126,51 @@ ended_status : (v : Verdict) (b : Bool) (text line : List ℕ)
 ended_status v true text line said = inl said.status_is
 ended_status v false text line said = inr said.status_is
 
-neither : {X : Type 0} (s t : Status) → (s ≡ Accepted) ⊎ (s ≡ Refused) → s ≡ t → ¬ (Accepted ≡ t) → ¬ (Refused ≡ t)
-    → X
-neither s t (inl accepted) is other other' = absurd (other (sym accepted ∙ is))
-neither s t (inr refused) is other other' = absurd (other' (sym refused ∙ is))
+not_missing : {X : Type 0} (s : Status) → (s ≡ Accepted) ⊎ (s ≡ Refused) → s ≡ NoFile → X
+not_missing s (inl accepted) is = let h : Accepted ≡ NoFile = sym accepted ∙ is in absurd cc
+not_missing s (inr refused) is = let h : Refused ≡ NoFile = sym refused ∙ is in absurd cc
 
-missing_on : (P Q : Type 0) (t : TaskValue) (v : Verdict) (e : End (Product t) (Halt t)) → IsVerdictOn t v e
-    → HasCause (halt_status t) P Q e → v.status ≡ NoFile → Q
-missing_on P Q t v (Finished x) on cause is =
-    neither v.status NoFile (ended_status v (fits t x) _ _ on.ends) is (λ h. cc) (λ h. cc)
-missing_on P Q t v (Stopped s) on cause is = cause (sym on.status_is ∙ is)
-missing_on P Q t v (Failed path) on cause is = let h : ReadFault ≡ NoFile = sym on.status_is ∙ is in absurd cc
-
--- no stop is a read fault
-stop_no_failure : {X : Type 0} (s : Status) → IsRefusal s → s ≡ ReadFault → X
-stop_no_failure s (inl refused) is = let h : Refused ≡ ReadFault = sym refused ∙ is in absurd cc
-stop_no_failure s (inr missing) is = let h : NoFile ≡ ReadFault = sym missing ∙ is in absurd cc
-
-failed_on : (P Q : Type 0) (t : TaskValue) (v : Verdict) (e : End (Product t) (Halt t)) → IsVerdictOn t v e
-    → HasCause (halt_status t) P Q e → v.status ≡ ReadFault → P
-failed_on P Q t v (Finished x) on cause is =
-    neither v.status ReadFault (ended_status v (fits t x) _ _ on.ends) is (λ h. cc) (λ h. cc)
-failed_on P Q t v (Stopped s) on cause is = stop_no_failure (halt_status t s) (refusal t s) (sym on.status_is ∙ is)
-failed_on P Q t v (Failed path) on cause is = cause
+missing_on : (t : TaskValue) (folder : Option Folder) (input : Option (List ℕ)) (I : Type 0) (F : List ℕ → Type 0)
+    (Q : Type 0) (v : Verdict) (e : End (Product t) (Halt t))
+    → IsVerdictOn t v e → HasTaskCause t folder input I F Q e → v.status ≡ NoFile → Q
+missing_on t folder input I F Q v (Finished x) on cause is =
+    not_missing v.status (ended_status v (fits t x) _ _ on.ends) is
+missing_on t folder input I F Q v (Stopped s) on cause is = cause.1 (sym on.status_is ∙ is)
+missing_on t folder input I F Q v (Failed path) on cause is =
+    let h : ReadFault ≡ NoFile = sym on.status_is ∙ is in absurd cc
 
 -- ---- the verdict on a task
 
-pub task_verdict : {E : Type 0} (P Q : Type 0) (t : TaskValue) (folder : Option Folder) (input at : Option (List ℕ))
+pub task_verdict : {E : Type 0} (I : Type 0) (F : List ℕ → Type 0) (Q : Type 0) (t : TaskValue)
+    (folder : Option Folder) (input at : Option (List ℕ))
     (o : Option (End (Product t) (Halt t))) (r : Result Verdict E)
-    → IfOk r (IsVerdictOf t o) → IfSome o (IsEnd t folder input) → IfSome o (IsPlace t folder at)
-    → IfSome o (HasCause (halt_status t) P Q) → IfSome o (λ _. LastPath t folder at)
-    → IfOk r (IsTaskVerdict t folder input at P Q)
-task_verdict P Q t folder input at o (Err e) on told place cause last = tt
-task_verdict P Q t folder input at None (Ok v) on told place cause last = absurd on
-task_verdict P Q t folder input at (Some e) (Ok v) on told place cause last = record {
-  says = verdict_says t folder input at e v on told place;
-  missing = missing_on P Q t v e on cause;
-  read = failed_on P Q t v e on cause;
+    → IfOk r (IsVerdictOf t o) → IfSome o (IsEnd t folder input) → IfSome o (HasTaskCause t folder input I F Q)
+    → IfSome o (λ _. LastPath t folder at) → IfOk r (IsTaskVerdict t folder input at I F Q)
+task_verdict I F Q t folder input at o (Err e) on known cause last = tt
+task_verdict I F Q t folder input at None (Ok v) on known cause last = absurd on
+task_verdict I F Q t folder input at (Some e) (Ok v) on known cause last = record {
+  says = verdict_says t folder input I F Q e v on known cause;
+  missing = missing_on t folder input I F Q v e on cause;
   at = last;
 }
 
--- what reads nothing has no cause
-pub causeless : {E : Type 0} (P Q : Type 0) (t : TaskValue) (folder : Option Folder) (input at : Option (List ℕ))
-    (r : Result Verdict E) → IfOk r (IsTaskVerdict t folder input at ⊥ ⊥)
-    → IfOk r (IsTaskVerdict t folder input at P Q)
-causeless P Q t folder input at (Err e) h = tt
-causeless P Q t folder input at (Ok v) h = record {
-  says = h.says;
+-- what reads nothing names no path that failed
+unfailing_says : (I : Type 0) (F : List ℕ → Type 0) (t : TaskValue) (folder : Option Folder)
+    (input : Option (List ℕ)) (status : Status) (text : List ℕ)
+    → ((failed : List ℕ) → ¬ IsFailedPath t folder input ⊥ (λ file. ⊥) failed)
+    → IsTextOf status t folder input ⊥ (λ file. ⊥) text → IsTextOf status t folder input I F text
+unfailing_says I F t folder input ReadFault text unfailing says = absurd (unfailing says.failed says.path)
+unfailing_says I F t folder input _ text unfailing says = says
+
+-- and none was counted missing
+pub unfailing : {E : Type 0} (I : Type 0) (F : List ℕ → Type 0) (Q : Type 0) (t : TaskValue)
+    (folder : Option Folder) (input at : Option (List ℕ)) (r : Result Verdict E)
+    → ((failed : List ℕ) → ¬ IsFailedPath t folder input ⊥ (λ file. ⊥) failed)
+    → IfOk r (IsTaskVerdict t folder input at ⊥ (λ file. ⊥) ⊥)
+    → IfOk r (IsTaskVerdict t folder input at I F Q)
+unfailing I F Q t folder input at (Err e) none h = tt
+unfailing I F Q t folder input at (Ok v) none h = record {
+  says = unfailing_says I F t folder input v.status v.text.items none h.says;
   missing = λ is. absurd (h.missing is);
-  read = λ is. absurd (h.read is);
   at = h.at;
-}
-
--- nor has what is accepted
-pub accepted_verdict : {E : Type 0} (P Q : Type 0) (t : TaskValue) (folder : Option Folder)
-    (input at : Option (List ℕ))
-    (r : Result Verdict E) → IfOk r (λ v. Says v.status t folder input at v.text.items)
-    → IfOk r (λ v. v.status ≡ Accepted)
-    → LastPath t folder at → IfOk r (IsTaskVerdict t folder input at P Q)
-accepted_verdict P Q t folder input at (Err e) says accepted last = tt
-accepted_verdict P Q t folder input at (Ok v) says accepted last = record {
-  says = says;
-  missing = λ is. neither v.status NoFile (inl accepted) is (λ h. cc) (λ h. cc);
-  read = λ is. neither v.status ReadFault (inl accepted) is (λ h. cc) (λ h. cc);
-  at = last;
 }

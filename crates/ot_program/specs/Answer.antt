@@ -1,8 +1,11 @@
 -- How the program's status and texts stand to the stated reply.
-use Rattle.std.specs.Prelude.{◌≡◌, ◌⊎◌, ℕ, List, [], true, false, ◌||◌, Option}
-use Rattle.std.specs.Prelude.{Some, Ok, Err, MatchBool, IfSome, IsSomeAnd, ◌≤◌}
+use Rattle.std.specs.Prelude.{◌≡◌, ◌⊎◌, ◌∷◌, ◌++◌, ℕ, List, [], true, false, ◌||◌, Option, Some, None}
+use Rattle.std.specs.Prelude.{Result, Ok, Err, MatchBool, IfErr, IfSome, IsSomeAnd}
+use Rattle.std.specs.Option.{option_map}
 use Rattle.std.specs.List.{All}
 use Rattle.std.specs.Io.KnownBytes.{Appends}
+use Rattle.ot_logic.specs.Names.{Name}
+use Rattle.ot_logic.specs.Trees.{Tm}
 use Rattle.ot_logic.specs.Naming.{names}
 use Rattle.ot_logic.specs.Lists.{IsMember}
 use Rattle.ot_logic.specs.Hol.{IsSequent, Accepted as AcceptedLists}
@@ -10,16 +13,17 @@ use Rattle.ot_laws.specs.Theorem.{IsTheorem}
 use Rattle.ot_io.specs.Causes.{CountRose}
 use Rattle.ot_io.specs.Folder.{Folder, path_asked}
 use Rattle.ot_io.specs.Keeping.{KeepsFiles}
-use Rattle.ot_io.specs.Sinks.{AppendsFront}
+use Rattle.ot_io.specs.Sinks.{AppendsFront, FlushesAll}
 use Rattle.ot_args.specs.Grammar.{is_theory}
 use Rattle.ot_link.specs.Stops.{Stop, InArticle, InTheory, InStructure, TooLarge, Missing}
 use Rattle.ot_link.specs.Blocks.{Ran}
-use Rattle.ot_text.specs.Laws.{OneSequent, OneSequentInFront}
+use Rattle.ot_print.specs.Laws.{TextsNameOne}
 use Rattle.ot_minimise.specs.Minimised.{IsMinimised}
 use Rattle.ot_proof_log.specs.Checked.{IsLogOf}
 use Rattle.ot_uses.specs.Used.{support_of}
 use Rattle.ot_uses.specs.Suffices.{IsSupported}
 use Rattle.ot_pretty.specs.Summary.{ReadBack}
+use Rattle.ot_read.specs.Lines.{term_read}
 use Rattle.ot_read.specs.Laws.{StandFor}
 use Rattle.ot_forms.specs.Refusals.{ReadsAsTerm}
 use Rattle.ot_blocks.specs.Paths.{package_path}
@@ -31,48 +35,31 @@ use Rattle.ot_program.specs.declared.task.View.TheVariants.{Counts, Summary, Use
 use Rattle.ot_program.specs.Texts.{usage_line, read_fault_line, write_fault_line, memory_line}
 use Rattle.ot_program.specs.Reply.{Reply, TaskValue, RunInput, RunSample, MakeSample, CheckLog, ShowReadable}
 use Rattle.ot_program.specs.Reply.{ReadLines, FindPattern, ReadStop, InInput, FindStop, InRequired, InRun}
-use Rattle.ot_program.specs.Reply.{InPattern, Searched, limits, sample_path, is_standard, Noted, notation}
-use Rattle.ot_program.specs.Reply.{assumptions_of, exports_of, sources, found, theory_run, Product, Halt, Told}
+use Rattle.ot_program.specs.Reply.{InPattern, PackageRun, Searched, limits, sample_path, input_of, is_standard}
+use Rattle.ot_program.specs.Reply.{Noted, notation, noted, noted_at, theory_shown, package_runs}
+use Rattle.ot_program.specs.Reply.{assumptions_of, exports_of, sources, found, theory_run, Product, Halt, KnownResult}
 use Rattle.ot_program.specs.Reply.{result_of, opened, text_of, fits, Lists, lists_of, run_lists, halt_status}
 use Rattle.ot_program.specs.Reply.{halt_line, over_line, article_limit, written_limit, article_text, log_text}
 use Rattle.ot_program.specs.declared.status.Status.{Status}
 use Rattle.ot_program.specs.declared.status.Status.TheVariants.{Accepted, Refused, Usage, NoFile}
 use Rattle.ot_program.specs.declared.status.Status.TheVariants.{ReadFault, WriteFault, Memory}
 
--- with this status the reply is such a one, and its output was written, or a front of it at a write fault
-abbrev pub MatchesReply : Status → Reply → Option (List ℕ) → Option (List ℕ) → Type 0
-MatchesReply Accepted reply old new = (reply.status ≡ Accepted) × Appends old new reply.output
-MatchesReply WriteFault reply old new = (reply.status ≡ Accepted) × AppendsFront old new reply.output
-MatchesReply Refused reply old new = reply.status ≡ Refused
-MatchesReply Usage reply old new = reply.status ≡ Usage
-MatchesReply NoFile reply old new = reply.status ≡ NoFile
-MatchesReply ReadFault reply old new = Unit {0}
-MatchesReply Memory reply old new = Unit {0}
-
--- the statuses with which nothing is written to the output
-abbrev pub IsSilent : Status → Type 0
-IsSilent Accepted = ⊥
-IsSilent WriteFault = ⊥
-IsSilent Refused = Unit {0}
-IsSilent Usage = Unit {0}
-IsSilent NoFile = Unit {0}
-IsSilent ReadFault = Unit {0}
-IsSilent Memory = Unit {0}
-
--- the statuses whose line says why the input isn't accepted
-abbrev pub IsVerdict : Status → Type 0
-IsVerdict Refused = Unit {0}
-IsVerdict NoFile = Unit {0}
-IsVerdict Accepted = ⊥
-IsVerdict WriteFault = ⊥
-IsVerdict Usage = ⊥
-IsVerdict ReadFault = ⊥
-IsVerdict Memory = ⊥
+-- with `Accepted` it is the reply's status, and the reply's output was written; with `WriteFault` the reply accepts, and a
+-- front of its output was written; with `Refused`, `Usage` and `NoFile` it is the reply's status, and its line was said;
+-- where an input failed or memory ran out the reply says nothing
+abbrev pub MatchesReply : Status → Reply → Option (List ℕ) → Option (List ℕ) → (WasSaid : List ℕ → Type 0) → Type 0
+MatchesReply Accepted reply old new WasSaid = (reply.status ≡ Accepted) × Appends old new reply.output
+MatchesReply WriteFault reply old new WasSaid = (reply.status ≡ Accepted) × AppendsFront old new reply.output
+MatchesReply Refused reply old new WasSaid = (reply.status ≡ Refused) × WasSaid reply.error
+MatchesReply Usage reply old new WasSaid = (reply.status ≡ Usage) × WasSaid reply.error
+MatchesReply NoFile reply old new WasSaid = (reply.status ≡ NoFile) × WasSaid reply.error
+MatchesReply ReadFault reply old new WasSaid = Unit {0}
+MatchesReply Memory reply old new WasSaid = Unit {0}
 
 -- ---- what a text says of a task's end, as far as that is known
 
--- each assumption is of propositions alone, the definitions are accepted over them, and each theorem is derivable from
--- the assumptions under the definitions
+-- each assumption is of propositions alone, the definitions are accepted over them, and each theorem is derivable
+-- from the assumptions under the definitions
 pub record IsProved (l : Lists) : Type 0 where
   pub assumptions : All (IsSequent names) l.assumptions
   pub accepted : AcceptedLists names l.assumptions l.definitions
@@ -97,11 +84,12 @@ abbrev pub AreReadBack : Noted → Type 0
 AreReadBack n = ReadBack (notation n) (assumptions_of n.ran) (exports_of n.ran)
 
 -- the pattern was read by the forms; what is found is exactly what it matches among the exports of the packages and
--- of the input, in order, with the maps; and the theorems of each package are proved
+-- of the input, in order, with the maps; the theorems of each package are proved, and an article requires none
 pub record IsSearch (pattern path : List ℕ) (s : Searched) : Type 0 where
   pub reads : ReadsAsTerm (notation s.noted) pattern s.pattern
   pub matches_are : AreMatches s.pattern (all_exports (sources path s)) (found path s)
   pub proved : All (λ p. IsProved (run_lists p.ran)) s.packages
+  pub none : is_theory path ≡ false → s.packages ≡ []
 
 -- what a view, and what a task, promises of the run besides
 abbrev pub IsPromisedIn : View → Ran → Type 0
@@ -120,17 +108,15 @@ IsPromisedBy (ShowReadable packages path) n = AreReadBack n
 IsPromisedBy (ReadLines packages path text) r = StandFor (notation r.noted) r.lines r.sequents
 IsPromisedBy (FindPattern packages pattern path) s = IsSearch pattern path s
 
--- it is what the task prints of its end, whose theorems are proved; a theorem's own assumptions and definitions
--- suffice for it where they are printed, readable text reads back, lines stand for the sequents that are printed of
--- them, matches are exactly those, an article that is written does what it is written for, and the check of a log
--- that is written ends with the run's theorems; and a text is that of one sequent, whatever stands behind it
-pub record IsReport (t : TaskValue) (told : Told t) (text : List ℕ) : Type 0 where
+-- the result of the task is `made`, as far as its end is known, and the theorems of that are `proved`; what the task
+-- promises of it besides is kept (`promised`). The text is what the task prints of it, and is within its limit
+-- (`fits_is`). Two well typed sequents, or two accepted definitions, with one text are one (`one_text`)
+pub record IsReport (t : TaskValue) (known : KnownResult t) (text : List ℕ) : Type 0 where
   pub made : Product t
-  pub ended : IfSome told (λ answer. answer ≡ Ok made)
+  pub ended : IfSome known (λ answer. answer ≡ Ok made)
   pub proved : IsProved (lists_of t made)
   pub promised : IsPromisedBy t made
-  pub one_text : OneSequent
-  pub one_in_front : OneSequentInFront
+  pub one_text : TextsNameOne
   pub fits_is : fits t made ≡ true
   pub text_is : text ≡ text_of t made
 
@@ -151,13 +137,13 @@ abbrev pub IsReadStop : List ℕ → ReadStop → Type 0
 IsReadStop path (InInput stop) = IsInputStop path stop
 IsReadStop path _ = Unit {0}
 
--- a theory file alone requires packages, and a pattern has stops of its own
+-- a theory file alone requires packages, and a pattern is one line
 abbrev pub IsFindStop : List ℕ → FindStop → Type 0
 IsFindStop path (InRequired refusal) = is_theory path ≡ true
 IsFindStop path (InRun stop) = IsInputStop path stop
-IsFindStop path (InPattern refused) = Unit {0}
+IsFindStop path (InPattern refused) = refused.line ≡ 1
 
--- a log's is in that log
+-- a stop is one of the task, by task; the stops of a log name no path
 abbrev pub IsOwnHalt : (t : TaskValue) → Halt t → Type 0
 IsOwnHalt (RunInput packages path view) stop = IsInputStop path stop
 IsOwnHalt (RunSample n) stop = IsOwnStop sample_path stop
@@ -168,89 +154,97 @@ IsOwnHalt (ReadLines packages path text) stop = IsReadStop path stop
 IsOwnHalt (FindPattern packages pattern path) stop = IsFindStop path stop
 
 -- it is the line of what stopped the task
-pub record IsStopLine (status : Status) (t : TaskValue) (told : Told t) (line : List ℕ) : Type 0 where
+pub record IsStopLine (status : Status) (t : TaskValue) (known : KnownResult t) (line : List ℕ) : Type 0 where
   pub stop : Halt t
-  pub stopped : IfSome told (λ answer. answer ≡ Err stop)
+  pub stopped : IfSome known (λ answer. answer ≡ Err stop)
   pub own : IsOwnHalt t stop
   pub status_is : halt_status t stop ≡ status
   pub line_is : line ≡ halt_line t stop
 
 -- it is the line for a text of the task's end that is past its limit
-pub record IsLargeLine (t : TaskValue) (told : Told t) (line : List ℕ) : Type 0 where
+pub record IsLargeLine (t : TaskValue) (known : KnownResult t) (line : List ℕ) : Type 0 where
   pub made : Product t
-  pub ended : IfSome told (λ answer. answer ≡ Ok made)
+  pub ended : IfSome known (λ answer. answer ≡ Ok made)
+  pub proved : IsProved (lists_of t made)
   pub large : fits t made ≡ false
   pub line_is : line ≡ over_line t
 
--- the path is that of an input which is read: `-`, or a file that is needed, which was the last to be asked for
-abbrev pub IsReadPath : List ℕ → Option (List (List ℕ)) → Option (List ℕ) → List ℕ → Type 0
-IsReadPath path files at failed =
-    MatchBool (is_standard path) (failed ≡ path)
-    (IfSome files (IsMember failed) × IfSome at (λ asked. failed ≡ asked))
+-- a file failed: the files counted a failure, and the file was the last to be asked for, as far as that is known
+abbrev pub FileFailed : Option (List ℕ) → (before now : ℕ) → List ℕ → Type 0
+FileFailed at before now file = CountRose before now × IfSome at (λ asked. file ≡ asked)
 
--- a file that a search needs besides: one of the walk over what a theory file requires, or one that the run of a
--- package needs
-pub data IsSearchFile (packages path : List ℕ) (folder : Folder) : List ℕ → Type 0 where
+-- the path of an input that failed: `-`, where standard input failed, or that of a needed file, which failed
+abbrev pub IsReadPath : List ℕ → Option (List (List ℕ)) → (InputFails : Type 0) → (FileFails : List ℕ → Type 0)
+    → List ℕ → Type 0
+IsReadPath path files InputFails FileFails failed =
+    MatchBool (is_standard path) ((failed ≡ path) × InputFails) (IfSome files (IsMember failed) × FileFails failed)
+
+-- a search needs a file besides: one of the walk over what a theory file requires; or, behind that, the run of the
+-- input, the pattern and the runs of the packages before it, one that the run of a package needs
+pub data IsSearchFile (packages pattern path : List ℕ) (folder : Folder) : List ℕ → Type 0 where
   OfWalk : (file : List ℕ) → IsWalked folder limits.theory_bytes packages path file
-      → IsSearchFile packages path folder file
-  OfPackage : (file full : List ℕ) (fulls : List (List ℕ)) → required folder limits.theory_bytes packages path
-      ≡ Ok fulls
-      → IsMember full fulls
+      → IsSearchFile packages pattern path folder file
+  OfPackage : (file full : List ℕ) (front back : List (List ℕ)) (n : Noted) (p : Tm Name) (runs : List PackageRun)
+      → required folder limits.theory_bytes packages path ≡ Ok (front ++ full ∷ back)
+      → noted (theory_shown path folder).answer (theory_run packages path folder).answer ≡ Ok n
+      → term_read (notation n) pattern ≡ Ok p
+      → package_runs packages folder front ≡ Ok runs
       → IsMember file (theory_run packages (package_path packages full) folder).paths
-      → IsSearchFile packages path folder file
+      → IsSearchFile packages pattern path folder file
 
--- and a text is a file, whatever the input is
-abbrev pub IsFailedPath : TaskValue → Option Folder → Option (List ℕ) → List ℕ → Type 0
-IsFailedPath (RunInput packages path view) folder at failed =
-    IsReadPath path (opened (RunInput packages path view) folder) at failed
-IsFailedPath (RunSample n) folder at failed = IsReadPath sample_path (opened (RunSample n) folder) at failed
-IsFailedPath (MakeSample n) folder at failed = IsReadPath sample_path (opened (MakeSample n) folder) at failed
-IsFailedPath (CheckLog path) folder at failed = IsReadPath path (opened (CheckLog path) folder) at failed
-IsFailedPath (ShowReadable packages path) folder at failed =
-    IsReadPath path (opened (ShowReadable packages path) folder) at failed
-IsFailedPath (ReadLines packages path text) folder at failed =
-    IsReadPath path (opened (ReadLines packages path text) folder) at failed
-    ⊎ ((failed ≡ text) × IfSome at (λ asked. failed ≡ asked))
-IsFailedPath (FindPattern packages pattern path) folder at failed =
-    IsReadPath path (opened (FindPattern packages pattern path) folder) at failed
-    ⊎ ((is_theory path ≡ true) × IfSome folder (λ files. IsSearchFile packages path files failed)
-    × IfSome at (λ asked. failed ≡ asked))
+-- as far as it is known, it is a result and no stop
+abbrev pub HasNoStop : {A S : Type 0} → Option (Result A S) → Type 0
+HasNoStop known = IfSome known (λ answer. IfErr answer (λ stop. ⊥))
+
+-- what the input requires was found, so its run is needed
+abbrev pub IsRequiredFound : (packages path : List ℕ) → Option Folder → Type 0
+IsRequiredFound packages path folder =
+    MatchBool (is_theory path)
+    (HasNoStop (option_map (λ files. required files limits.theory_bytes packages path) folder)) (Unit {0})
+
+-- the path that a read fault names, and that its device failed: that of the input; or that of another file that the task
+-- needs: of `read` the text, which is always a file and read behind the input; of `find` one that a search needs
+abbrev pub IsFailedPath : TaskValue → Option Folder → Option (List ℕ) → (InputFails : Type 0)
+    → (FileFails : List ℕ → Type 0) → List ℕ
+    → Type 0
+IsFailedPath (ReadLines packages path text) folder input InputFails FileFails failed =
+    IsReadPath path (opened (ReadLines packages path text) folder) InputFails FileFails failed
+    ⊎ ((failed ≡ text) × HasNoStop (noted_at packages path folder input) × FileFails failed)
+IsFailedPath (FindPattern packages pattern path) folder input InputFails FileFails failed =
+    (IsReadPath path (opened (FindPattern packages pattern path) folder) InputFails FileFails failed
+    × IsRequiredFound packages path folder)
+    ⊎ ((is_theory path ≡ true) × IfSome folder (λ files. IsSearchFile packages pattern path files failed)
+    × FileFails failed)
+IsFailedPath t folder input InputFails FileFails failed =
+    IsReadPath (input_of t) (opened t folder) InputFails FileFails failed
 
 -- it is the line for an input that failed
-pub record IsFailureLine (t : TaskValue) (folder : Option Folder) (at : Option (List ℕ)) (line : List ℕ) : Type
-    0 where
+pub record IsFailureLine (t : TaskValue) (folder : Option Folder) (input : Option (List ℕ))
+    (InputFails : Type 0) (FileFails : List ℕ → Type 0) (line : List ℕ) : Type 0 where
   pub failed : List ℕ
-  pub path : IsFailedPath t folder at failed
+  pub path : IsFailedPath t folder input InputFails FileFails failed
   pub line_is : line ≡ read_fault_line failed
 
--- what a text says with which a task has this status
-abbrev pub Says : Status → TaskValue → Option Folder → Option (List ℕ) → Option (List ℕ) → List ℕ → Type 0
-Says Accepted t folder input at text = IsReport t (result_of t folder input) text
-Says Refused t folder input at line =
-    IsStopLine Refused t (result_of t folder input) line ⊎ IsLargeLine t (result_of t folder input) line
-Says NoFile t folder input at line = IsStopLine NoFile t (result_of t folder input) line
-Says ReadFault t folder input at line = IsFailureLine t folder at line
-Says Usage t folder input at line = ⊥
-Says WriteFault t folder input at line = ⊥
-Says Memory t folder input at line = ⊥
+-- ---- what is written, and what is said
 
--- ---- what is written
-
--- a text was written, or a front of it at a write fault
-abbrev pub Writes : Status → Option (List ℕ) → Option (List ℕ) → List ℕ → Type 0
-Writes Accepted old new text = Appends old new text
-Writes WriteFault old new text = AppendsFront old new text
-Writes Refused old new text = Unit {0}
-Writes Usage old new text = Unit {0}
-Writes NoFile old new text = Unit {0}
-Writes ReadFault old new text = Unit {0}
-Writes Memory old new text = Unit {0}
-
--- the headline: what was written is a report on the task's end
-pub record Prints (status : Status) (t : TaskValue) (told : Told t) (old new : Option (List ℕ)) : Type 0 where
+-- there is a text of a kind that was put out in a way
+pub record SomeText (IsOne IsPut : List ℕ → Type 0) : Type 0 where
   pub text : List ℕ
-  pub report : IsReport t told text
-  pub written : Writes status old new text
+  pub is_one : IsOne text
+  pub is_put : IsPut text
+
+-- a text of a kind was written and flushed, or a front of it at a write fault; with another status nothing was
+abbrev pub Outputs : {O : Type 0} → Status → (written : O → Option (List ℕ)) → (flushed : O → Option ℕ) → O → O
+    → (IsOne : List ℕ → Type 0) → Type 0
+Outputs Accepted written flushed old new IsOne =
+    SomeText IsOne (λ text. Appends (written old) (written new) text
+    × FlushesAll (flushed old) (written new) (flushed new))
+Outputs WriteFault written flushed old new IsOne = SomeText IsOne (AppendsFront (written old) (written new))
+Outputs Refused written flushed old new IsOne = new ≡ old
+Outputs Usage written flushed old new IsOne = new ≡ old
+Outputs NoFile written flushed old new IsOne = new ≡ old
+Outputs ReadFault written flushed old new IsOne = new ≡ old
+Outputs Memory written flushed old new IsOne = new ≡ old
 
 -- a sink's bytes grew by a line, or by a front of it where the sink's count of failures rose
 abbrev pub WritesLine : {E : Type 0} → (E → Option (List ℕ)) → (E → ℕ) → E → E → List ℕ → Type 0
@@ -258,53 +252,55 @@ WritesLine written faults old new line =
     Appends (written old) (written new) line
     ⊎ (CountRose (faults old) (faults new) × AppendsFront (written old) (written new) line)
 
--- the line on standard error that goes with a status
-abbrev pub IsLine : Status → Option TaskValue → Option Folder → Option (List ℕ) → Option (List ℕ) → List ℕ → Type 0
-IsLine Accepted t folder input at line = ⊥
-IsLine Refused t folder input at line = IsSomeAnd t (λ task. Says Refused task folder input at line)
-IsLine Usage t folder input at line = line ≡ usage_line
-IsLine NoFile t folder input at line = IsSomeAnd t (λ task. Says NoFile task folder input at line)
-IsLine ReadFault t folder input at line = IsSomeAnd t (λ task. Says ReadFault task folder input at line)
-IsLine WriteFault t folder input at line = line ≡ write_fault_line
-IsLine Memory t folder input at line = line ≡ memory_line
+-- a line of a kind was said; where all was accepted, none
+abbrev pub SaysWhy : {E : Type 0} → Status → (written : E → Option (List ℕ)) → (faults : E → ℕ) → E → E
+    → (IsOne : List ℕ → Type 0) → Type 0
+SaysWhy Accepted written faults old new IsOne = new ≡ old
+SaysWhy Refused written faults old new IsOne = SomeText IsOne (WritesLine written faults old new)
+SaysWhy Usage written faults old new IsOne = SomeText IsOne (WritesLine written faults old new)
+SaysWhy NoFile written faults old new IsOne = SomeText IsOne (WritesLine written faults old new)
+SaysWhy ReadFault written faults old new IsOne = SomeText IsOne (WritesLine written faults old new)
+SaysWhy WriteFault written faults old new IsOne = SomeText IsOne (WritesLine written faults old new)
+SaysWhy Memory written faults old new IsOne = SomeText IsOne (WritesLine written faults old new)
 
--- one such line was written
-pub record WritesSome {E : Type 0} (IsOne : List ℕ → Type 0)
-    (written : E → Option (List ℕ)) (faults : E → ℕ) (old new : E) : Type 0 where
-  pub line : List ℕ
-  pub is_one : IsOne line
-  pub writes : WritesLine written faults old new line
+-- the headline: a text on output is a report on the end of the task
+abbrev pub IsOutput : Option TaskValue → Option Folder → Option (List ℕ) → List ℕ → Type 0
+IsOutput t folder input text = IsSomeAnd t (λ task. IsReport task (result_of task folder input) text)
+
+-- what the counts of a call say: standard input failed; the files did, and this is the path that was asked for last, as
+-- far as that is known; a file was missing; the output failed
+pub record Failures : Type 1 where
+  pub input : Type 0
+  pub file : List ℕ → Type 0
+  pub missing : Type 0
+  pub output : Type 0
+
+-- the line on standard error that goes with a status, and what failed
+abbrev pub IsErrorLine : Status → Option TaskValue → Option Folder → Option (List ℕ) → Failures → List ℕ → Type 0
+IsErrorLine Accepted t folder input failures line = ⊥
+IsErrorLine Refused t folder input failures line =
+    IsSomeAnd t (λ task. IsStopLine Refused task (result_of task folder input) line
+    ⊎ IsLargeLine task (result_of task folder input) line)
+IsErrorLine Usage t folder input failures line = line ≡ usage_line
+IsErrorLine NoFile t folder input failures line =
+    IsSomeAnd t (λ task. IsStopLine NoFile task (result_of task folder input) line) × failures.missing
+IsErrorLine ReadFault t folder input failures line =
+    IsSomeAnd t (λ task. IsFailureLine task folder input failures.input failures.file line)
+IsErrorLine WriteFault t folder input failures line = (line ≡ write_fault_line) × failures.output
+IsErrorLine Memory t folder input failures line = line ≡ memory_line
 
 -- ---- what else becomes of the inputs
-
--- the device that is read failed: standard input, or the files
-abbrev pub FailedAt : List ℕ → (before now : ℕ) → (files_before files_now : ℕ) → Type 0
-FailedAt path before now files_before files_now =
-    MatchBool (is_standard path) (CountRose before now) (CountRose files_before files_now)
-
--- and so does that of a text, which is a file
-abbrev pub FailedIn : TaskValue → (before now : ℕ) → (files_before files_now : ℕ) → Type 0
-FailedIn (RunInput packages path view) before now files_before files_now =
-    FailedAt path before now files_before files_now
-FailedIn (RunSample n) before now files_before files_now = FailedAt sample_path before now files_before files_now
-FailedIn (MakeSample n) before now files_before files_now = FailedAt sample_path before now files_before files_now
-FailedIn (CheckLog path) before now files_before files_now = FailedAt path before now files_before files_now
-FailedIn (ShowReadable packages path) before now files_before files_now =
-    FailedAt path before now files_before files_now
-FailedIn (ReadLines packages path text) before now files_before files_now =
-    FailedAt path before now files_before files_now ⊎ CountRose files_before files_now
-FailedIn (FindPattern packages pattern path) before now files_before files_now =
-    FailedAt path before now files_before files_now
 
 -- the files are left alone where the input is standard input, and standard input where it is a file
 abbrev pub LeavesOther : {F S : Type 0} → List ℕ → F → F → S → S → Type 0
 LeavesOther path files files_now input input_now =
     MatchBool (is_standard path) (files_now ≡ files) (input_now ≡ input)
 
--- and both where nothing is read
+-- both are left alone
 abbrev pub LeavesBoth : {F S : Type 0} → F → F → S → S → Type 0
 LeavesBoth files files_now input input_now = (files_now ≡ files) × (input_now ≡ input)
 
+-- what a task leaves alone, by task; the text of `read` is always a file
 abbrev pub LeavesAlone : {F S : Type 0} → TaskValue → F → F → S → S → Type 0
 LeavesAlone (RunInput packages path view) files files_now input input_now =
     LeavesOther path files files_now input input_now
@@ -318,17 +314,22 @@ LeavesAlone (ReadLines packages path text) files files_now input input_now =
 LeavesAlone (FindPattern packages pattern path) files files_now input input_now =
     LeavesOther path files files_now input input_now
 
+-- nothing is read where there is no task
+abbrev pub LeavesUnasked : {F S : Type 0} → Option TaskValue → F → F → S → S → Type 0
+LeavesUnasked None files files_now input input_now = LeavesBoth files files_now input input_now
+LeavesUnasked (Some t) files files_now input input_now = LeavesAlone t files files_now input input_now
+
 -- the path that was asked for last is the article's, where it is a file and the folder is known and has it
 abbrev pub LastInput : List ℕ → Option Folder → Option (List ℕ) → Type 0
 LastInput path folder at = MatchBool (is_standard path || is_theory path) (Unit {0}) (at ≡ path_asked folder path)
 
--- or that of a text
+-- where the input is an article's file, the path that was asked for last is that file's, or the text's
 abbrev pub LastOf : (path text : List ℕ) → Option Folder → Option (List ℕ) → Type 0
 LastOf path text folder at =
     MatchBool (is_standard path || is_theory path) (Unit {0})
     ((at ≡ path_asked folder path) ⊎ (at ≡ path_asked folder text))
 
--- or the log's
+-- which path was asked for last, by task
 abbrev pub LastPath : TaskValue → Option Folder → Option (List ℕ) → Type 0
 LastPath (RunInput packages path view) folder at = LastInput path folder at
 LastPath (RunSample n) folder at = Unit {0}

@@ -80,8 +80,8 @@ limits = record {
 -- ---- what a command does
 
 -- it runs an input, with packages from a folder, and prints the result of the run in one view; it makes the sample
--- article of a size, and runs it, or makes it alone; it checks the log of a path; or it runs an input and prints what
--- the run came to in readable form, or reads the lines of a text, or searches the run, and the packages that it
+-- article of a size, and runs it, or makes it alone; it checks the log of a path; or it runs an input and prints the
+-- result in readable form, or reads the lines of a text, or searches the run, and the packages that it
 -- requires, for a pattern
 pub data TaskValue : Type 0 where
   RunInput : List ℕ → List ℕ → View → TaskValue
@@ -113,6 +113,16 @@ task_of words = option_map task (command_of words)
 -- what stands for the path of a sample
 abbrev pub sample_path : List ℕ
 sample_path = codes "sample"
+
+-- the path of the input, or of the log
+abbrev pub input_of : TaskValue → List ℕ
+input_of (RunInput packages path view) = path
+input_of (RunSample n) = sample_path
+input_of (MakeSample n) = sample_path
+input_of (CheckLog path) = path
+input_of (ShowReadable packages path) = path
+input_of (ReadLines packages path text) = path
+input_of (FindPattern packages pattern path) = path
 
 -- `-` is standard input; any other name is a file's
 abbrev pub is_standard : List ℕ → Bool
@@ -187,12 +197,12 @@ abbrev pub noted : Result (List Name) Stop → Result Ran Stop → Result Noted 
 noted names ran = names >>= λ ns. ran >>= λ r. Ok (record { shown = ns; ran = r })
 
 -- both, as far as they are known
-abbrev pub noted_told : Option (Linked (List Name)) → Option (Linked Ran) → Option (Result Noted Stop)
-noted_told names ran = option_and_then (λ ns. option_map (λ r. noted ns.answer r.answer) ran) names
+abbrev pub noted_known : Option (Linked (List Name)) → Option (Linked Ran) → Option (Result Noted Stop)
+noted_known names ran = option_and_then (λ ns. option_map (λ r. noted ns.answer r.answer) ran) names
 
 -- the run of an input with its notation, over the files and the bytes of standard input that are known
 abbrev pub noted_at : List ℕ → List ℕ → Option Folder → Option (List ℕ) → Option (Result Noted Stop)
-noted_at packages path folder input = noted_told (shown_at path folder) (run_at packages path folder input)
+noted_at packages path folder input = noted_known (shown_at path folder) (run_at packages path folder input)
 
 -- the paths of the files that both need
 abbrev pub opened_first : Option (Linked (List Name)) → Option (List (List ℕ)) → Option (List (List ℕ))
@@ -341,8 +351,8 @@ check_at path folder input = if is_standard path then option_map check_bytes inp
 
 -- ---- how a task ends
 
--- its result: the end of a run, what a log proves, a run with its notation, or nothing but the text that is
--- made
+-- its result: the end of a run, what a log proves, a run with its notation, the sequents of lines, what is searched, or
+-- nothing but the text that is made
 abbrev pub Product : TaskValue → Type 0
 Product (RunInput packages path view) = Ran
 Product (RunSample n) = Ran
@@ -352,7 +362,7 @@ Product (ShowReadable packages path) = Noted
 Product (ReadLines packages path text) = Readings
 Product (FindPattern packages pattern path) = Searched
 
--- what stops it: a fault of the run, or of the log
+-- what stops it: a fault of the run, of the log, of the lines of a text, or of a search
 abbrev pub Halt : TaskValue → Type 0
 Halt (RunInput packages path view) = Stop
 Halt (RunSample n) = Stop
@@ -363,10 +373,10 @@ Halt (ReadLines packages path text) = ReadStop
 Halt (FindPattern packages pattern path) = FindStop
 
 -- how it ends, as far as that is known
-abbrev pub Told : TaskValue → Type 0
-Told t = Option (Result (Product t) (Halt t))
+abbrev pub KnownResult : TaskValue → Type 0
+KnownResult t = Option (Result (Product t) (Halt t))
 
-abbrev pub result_of : (t : TaskValue) → Option Folder → Option (List ℕ) → Told t
+abbrev pub result_of : (t : TaskValue) → Option Folder → Option (List ℕ) → KnownResult t
 result_of (RunInput packages path view) folder input = option_map (λ l. l.answer) (run_at packages path folder input)
 result_of (RunSample n) folder input = Some (article_end sample_path (outcome (sample n)))
 result_of (MakeSample n) folder input = Some (Ok tt)
@@ -375,7 +385,8 @@ result_of (ShowReadable packages path) folder input = noted_at packages path fol
 result_of (ReadLines packages path text) folder input = read_at packages path text folder input
 result_of (FindPattern packages pattern path) folder input = find_at packages pattern path folder input
 
--- the paths of the files that it needs, in order, as far as they are known
+-- the paths of the files that its input needs, in order, as far as they are known; the text of `read`, and what `find`
+-- needs besides, are named where a read fault is (`IsFailedPath`)
 abbrev pub opened : TaskValue → Option Folder → Option (List (List ℕ))
 opened (RunInput packages path view) folder = opened_at packages path folder
 opened (RunSample n) folder = Some []
@@ -492,7 +503,8 @@ fits (ShowReadable packages path) n = nat_le (length (readable n)) summary_limit
 fits (ReadLines packages path text) r = nat_le (length (sequent_lines r.sequents)) summary_limit
 fits (FindPattern packages pattern path) s = nat_le (length (find_text (found path s))) summary_limit
 
--- the assumptions, the definitions and the theorems of which it prints
+-- the assumptions, the definitions and the theorems of which it prints; of `read` and `find` those of the run of the
+-- input
 pub record Lists : Type 0 where
   pub assumptions : List (Sequent Name)
   pub definitions : List (Definition Name)

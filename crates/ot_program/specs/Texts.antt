@@ -107,35 +107,35 @@ abbrev pub fault_line : List ℕ → ℕ → Fault Name → List ℕ
 fault_line path number fault = line_at path number (fault_text fault)
 
 -- the text of a fault in a proof log
-abbrev pub log_text : LogFault → List ℕ
-log_text log.LineTooLong = codes "line longer than 65535 bytes"
-log_text log.LogTooLong = codes "log longer than 4294967296 bytes"
-log_text log.BadToken = codes "bad token"
-log_text log.BadHeader = codes "bad log header"
-log_text log.UnknownRecord = codes "unknown record"
-log_text log.BadReference = codes "no such number"
-log_text log.BadStep = codes "step does not follow"
-log_text log.LogNesting = codes "nested deeper than 4128"
-log_text log.LogEnds = codes "log ends early"
+abbrev pub log_fault_text : LogFault → List ℕ
+log_fault_text log.LineTooLong = codes "line longer than 65535 bytes"
+log_fault_text log.LogTooLong = codes "log longer than 4294967296 bytes"
+log_fault_text log.BadToken = codes "bad token"
+log_fault_text log.BadHeader = codes "bad log header"
+log_fault_text log.UnknownRecord = codes "unknown record"
+log_fault_text log.BadReference = codes "no such number"
+log_fault_text log.BadStep = codes "step does not follow"
+log_fault_text log.LogNesting = codes "nested deeper than 4128"
+log_fault_text log.LogEnds = codes "log ends early"
 
 -- the line for a fault at a line of the log of a path
 abbrev pub log_line : List ℕ → ℕ → LogFault → List ℕ
-log_line path number fault = line_at path number (log_text fault)
+log_line path number fault = line_at path number (log_fault_text fault)
 
 -- the text of a fault in a line of readable text
-abbrev pub readable_text : TextFault → List ℕ
-readable_text readable.Syntax = codes "cannot be read"
-readable_text readable.TooManyOpen = codes "too many open"
-readable_text readable.Unbound = codes "unbound name"
-readable_text readable.UnknownOperator = codes "unknown operator"
-readable_text readable.BadTypes = codes "types do not fit"
-readable_text readable.TooDeep = codes "nested deeper than 4096"
+abbrev pub reading_fault_text : TextFault → List ℕ
+reading_fault_text readable.Syntax = codes "cannot be read"
+reading_fault_text readable.TooManyOpen = codes "too many open"
+reading_fault_text readable.Unbound = codes "unbound name"
+reading_fault_text readable.UnknownOperator = codes "unknown operator"
+reading_fault_text readable.BadTypes = codes "types do not fit"
+reading_fault_text readable.TooDeep = codes "nested deeper than 4096"
 
 -- the line for such a fault at a column of a line of the text of a path
 abbrev pub column_line : List ℕ → (number column : ℕ) → TextFault → List ℕ
 column_line path number column fault =
     concat (codes "opentheory: " ∷ path ∷ codes ":" ∷ decimal number ∷ codes ":" ∷ decimal column ∷ codes ": "
-    ∷ readable_text fault ∷ codes "\n" ∷ [])
+    ∷ reading_fault_text fault ∷ codes "\n" ∷ [])
 
 -- the line for a readable text that is too large
 abbrev pub large_text_line : List ℕ → List ℕ

@@ -1,6 +1,8 @@
--- What the parts of the program come to. Only contracts of private functions speak of it.
-use Rattle.std.specs.Prelude.{◌≡◌, ◌≢◌, ◌⊎◌, ◌≤◌, ◌++◌, ℕ, true, false, List, [], map, length, nat_le, Option}
-use Rattle.std.specs.Prelude.{Some, None, Result, Ok, Err, Vec, MatchBool, IfSome, IsSomeAnd, string_bytes}
+-- How the parts of the program end. Only contracts of private functions and proofs speak of it.
+use Rattle.std.specs.Prelude.{◌≡◌, ◌≢◌, ◌⊎◌, ◌≤◌, ◌∷◌, ◌++◌, ℕ, true, false, List, [], map, length, nat_le}
+use Rattle.std.specs.Prelude.{Option, Some, None, Result, Ok, Err, Vec, MatchBool, IfSome, IsSomeAnd}
+use Rattle.std.specs.Prelude.{string_bytes}
+use Rattle.std.specs.Io.KnownBytes.{Appends}
 use Rattle.std.specs.Global.{Global}
 use Rattle.std.specs.Option.{option_map}
 use Rattle.std.specs.List.{All}
@@ -12,6 +14,7 @@ use Rattle.ot_args.specs.declared.sections.Sections.{Sections}
 use Rattle.ot_args.specs.declared.command.Usage as words
 use Rattle.ot_args.specs.Grammar.{is_theory}
 use Rattle.ot_io.specs.Folder.{Folder}
+use Rattle.ot_io.specs.Sinks.{AppendsFront}
 use Rattle.ot_blocks.specs.Paths.{package_path}
 use Rattle.ot_repo.specs.Required.{Refusal, required}
 use Rattle.ot_repo.specs.Required as repo
@@ -28,7 +31,7 @@ use Rattle.ot_machine.specs.Meaning.{export_of, run_of}
 use Rattle.ot_machine.specs.declared.session.Session.{Session}
 use Rattle.ot_link.specs.declared.fault.LinkFault.{LinkFault}
 use Rattle.ot_link.specs.declared.fault.LinkFault.TheVariants as faults
-use Rattle.ot_text.specs.Laws.{OneSequent, OneSequentInFront}
+use Rattle.ot_print.specs.Laws.{TextsNameOne}
 use Rattle.ot_forms.specs.Refusals.{ReadsAsTerm}
 use Rattle.ot_read.specs.Lines.{at_line, term_read, sequent_lines}
 use Rattle.ot_find.specs.Matches.{Source, Found, matches, matches_in}
@@ -47,7 +50,8 @@ use Rattle.ot_program.specs.Reply.{find_status, find_line, Noted, readable, Prod
 use Rattle.ot_program.specs.Reply.{fits, article_text, article_fits, log_text, log_fits, lists_of, summary}
 use Rattle.ot_program.specs.Reply.{uses, summary_limit, over_line, stop_status, halt_status, halt_line}
 use Rattle.ot_program.specs.Answer.{IsProved, IsPromisedBy, IsSearch, IsOwnStop, IsInputStop}
-use Rattle.ot_program.specs.Answer.{IsFindStop, IsOwnHalt, IsFailedPath, LastPath, Says}
+use Rattle.ot_program.specs.Answer.{IsFindStop, IsOwnHalt, IsFailedPath, LastPath, IsReport, IsStopLine}
+use Rattle.ot_program.specs.Answer.{IsLargeLine, IsFailureLine}
 use Rattle.ot_program.specs.declared.status.Status.{Status}
 use Rattle.ot_program.specs.declared.status.Status.TheVariants.{Accepted, Refused, Usage, NoFile}
 use Rattle.ot_program.specs.declared.status.Status.TheVariants.{ReadFault, WriteFault, Memory}
@@ -100,7 +104,7 @@ task_answer (Err _) = None
 
 -- ---- how a task ends
 
--- with its result, at a stop, or with an input that failed
+-- a task ends with its result, at a stop, or at a path that failed
 pub data End (X S : Type 0) : Type 0 where
   Finished : X → End X S
   Stopped : S → End X S
@@ -120,7 +124,7 @@ pub record AreCounts (r : Ran) (counts : Counts) : Type 0 where
   pub assumptions : counts.assumptions ≡ length r.run.assumptions
   pub definitions : counts.definitions ≡ length r.run.definitions
 
--- the end that a fault tells, by the kernel's names; none where memory ran out
+-- the end that a fault stands for, by the kernel's names; none where memory ran out
 abbrev pub end_at : kernel.State → LinkFault → Option (End Ran Stop)
 end_at k (faults.Article path line fault) =
     option_map (λ f. Stopped (InArticle (string_bytes path) line f)) (fault_of (kernel.name_at k) fault)
@@ -131,7 +135,7 @@ end_at k (faults.NoFile path) = Some (Stopped (Missing (string_bytes path)))
 end_at k (faults.ReadFault path) = Some (Failed (string_bytes path))
 end_at k faults.Memory = None
 
--- the end that an answer tells
+-- the end that an answer stands for
 abbrev pub end_of : Session → Result (Vec Export Global) LinkFault → Option (End Ran Stop)
 end_of s (Ok exports) = Some (Finished (ran_from s exports.items))
 end_of s (Err fault) = end_at s.kernel fault
@@ -165,15 +169,15 @@ IsTextRefusal text readings.NoFile = text ≡ Err NoText
 IsTextRefusal text readings.ReadFault = Unit {0}
 IsTextRefusal text readings.Memory = Unit {0}
 
--- and it comes only where the files counted it
-abbrev pub IsTextCause : ReadingRefusal → (FailureRose MissRose : Type 0) → Type 0
-IsTextCause (readings.At line column fault) FailureRose MissRose = ⊥
-IsTextCause readings.TooLarge FailureRose MissRose = Unit {0}
-IsTextCause readings.NoFile FailureRose MissRose = MissRose
-IsTextCause readings.ReadFault FailureRose MissRose = FailureRose
-IsTextCause readings.Memory FailureRose MissRose = Unit {0}
+-- why the bytes of a text, or its lines, aren't read: a missing file was counted, and `Failing` holds of a failure
+abbrev pub IsTextCause : ReadingRefusal → (Failing MissRose : Type 0) → Type 0
+IsTextCause (readings.At line column fault) Failing MissRose = Unit {0}
+IsTextCause readings.TooLarge Failing MissRose = Unit {0}
+IsTextCause readings.NoFile Failing MissRose = MissRose
+IsTextCause readings.ReadFault Failing MissRose = Failing
+IsTextCause readings.Memory Failing MissRose = Unit {0}
 
--- the end that the reading of the text of a path tells; none where memory ran out
+-- the end that the reading of the text of a path stands for; none where memory ran out
 abbrev pub read_end_of : List ℕ → Noted → Result LinesRead ReadingRefusal → Option (End Readings ReadStop)
 read_end_of text n (Ok r) =
     Some (Finished (record { noted = n; lines = lines_of r.bytes.items; sequents = map sequent_of r.sequents.items }))
@@ -184,7 +188,7 @@ read_end_of text n (Err readings.NoFile) = Some (Stopped NoText)
 read_end_of text n (Err readings.ReadFault) = Some (Failed text)
 read_end_of text n (Err readings.Memory) = None
 
--- the end that the check of the log of a path tells; none where memory ran out
+-- the end that the check of the log of a path stands for; none where memory ran out
 abbrev pub log_end_of : List ℕ → Result Proved LogRefusal → Option (End Proved LogStop)
 log_end_of path (Ok proved) = Some (Finished proved)
 log_end_of path (Err (refusals.At line fault)) = Some (Stopped (InLog line (log_fault_of fault)))
@@ -202,29 +206,31 @@ IsAnswer answer (Failed path) = Unit {0}
 abbrev pub IsEnd : (t : TaskValue) → Option Folder → Option (List ℕ) → End (Product t) (Halt t) → Type 0
 IsEnd t folder input e = IfSome (result_of t folder input) (λ answer. IsAnswer answer e)
 
--- a stop, or a failure, is at a path that the task reads
-abbrev pub IsPlace : (t : TaskValue) → Option Folder → Option (List ℕ) → End (Product t) (Halt t) → Type 0
-IsPlace t folder at (Finished x) = Unit {0}
-IsPlace t folder at (Stopped s) = IsOwnHalt t s
-IsPlace t folder at (Failed failed) = IsFailedPath t folder at failed
+-- why there is such an end: a stop is one of `Own`, and where its status is `NoFile` a missing file was counted; a path
+-- that failed is one of `Failing`
+abbrev pub HasCause : {X S : Type 0} → (S → Status) → (Own : S → Type 0) → (Failing : List ℕ → Type 0)
+    → (MissRose : Type 0) → End X S → Type 0
+HasCause status Own Failing MissRose (Finished x) = Unit {0}
+HasCause status Own Failing MissRose (Stopped s) = Own s × (status s ≡ NoFile → MissRose)
+HasCause status Own Failing MissRose (Failed path) = Failing path
 
--- a stop, or a failure, is at this path of an article
-abbrev pub IsOwnEnd : List ℕ → End Ran Stop → Type 0
-IsOwnEnd path (Finished r) = Unit {0}
-IsOwnEnd path (Stopped s) = IsOwnStop path s
-IsOwnEnd path (Failed failed) = failed ≡ path
+-- why a task ends so: at a stop of its own, or at a path that it reads
+abbrev pub HasTaskCause : (t : TaskValue) → Option Folder → Option (List ℕ) → (InputFails : Type 0)
+    → (FileFails : List ℕ → Type 0) → (MissRose : Type 0) → End (Product t) (Halt t) → Type 0
+HasTaskCause t folder input InputFails FileFails =
+    HasCause (halt_status t) (IsOwnHalt t) (IsFailedPath t folder input InputFails FileFails)
 
--- a failure is at one of these paths, which was the last to be asked for, as far as they are known
-abbrev pub IsNeeded : Option (List (List ℕ)) → Option (List ℕ) → End Ran Stop → Type 0
-IsNeeded files at (Finished r) = Unit {0}
-IsNeeded files at (Stopped s) = Unit {0}
-IsNeeded files at (Failed failed) = IfSome files (IsMember failed) × IfSome at (λ asked. failed ≡ asked)
+-- why the run of an article of this path ends so
+abbrev pub HasOwnCause : List ℕ → (FailureRose MissRose : Type 0) → End Ran Stop → Type 0
+HasOwnCause path FailureRose = HasCause stop_status (IsOwnStop path) (λ failed. (failed ≡ path) × FailureRose)
 
--- a missing file, which a stop has by its status, and a failure were counted
-abbrev pub HasCause : {X S : Type 0} → (S → Status) → (FailureRose MissRose : Type 0) → End X S → Type 0
-HasCause status FailureRose MissRose (Finished x) = Unit {0}
-HasCause status FailureRose MissRose (Stopped s) = status s ≡ NoFile → MissRose
-HasCause status FailureRose MissRose (Failed path) = FailureRose
+-- why the run of a theory file ends so: a path that failed is that of a file which it needs
+abbrev pub HasTheoryCause : (packages path : List ℕ) → Option Folder → (FileFails : List ℕ → Type 0)
+    → (MissRose : Type 0) → End Ran Stop → Type 0
+HasTheoryCause packages path folder FileFails =
+    HasCause stop_status (λ stop. Unit {0})
+    (λ file. IfSome (option_map (λ files. (theory_run packages path files).paths) folder) (IsMember file)
+    × FileFails file)
 
 -- ---- verdicts
 
@@ -277,13 +283,12 @@ IsLawfulEnds s exports = AreLawful (run_of s) (map (export_of s) exports)
 abbrev pub IsLawfulEnd : Session → Vec Export Global → Type 0
 IsLawfulEnd s exports = IsLawfulEnds s exports.items
 
--- and its theorems are proved
+-- a verdict says how the task ended, and its result is proved
 pub record IsFinal (t : TaskValue) (x : Product t) (v : Verdict) : Type 0 where
   pub ends : EndsAs t x v
   pub proved : IsProved (lists_of t x)
   pub promised : fits t x ≡ true → IsPromisedBy t x
-  pub one_text : OneSequent
-  pub one_in_front : OneSequentInFront
+  pub one_text : TextsNameOne
 
 -- the verdict on a run that stopped or failed
 abbrev pub IsStopVerdict : Verdict → End Ran Stop → Type 0
@@ -299,15 +304,25 @@ IsVerdictOn t v (Failed path) = IsSaid v ReadFault (read_fault_line path)
 
 -- there is such an end, and the verdict is on it
 abbrev pub IsVerdictOf : (t : TaskValue) → Option (End (Product t) (Halt t)) → Verdict → Type 0
-IsVerdictOf t told v = IsSomeAnd told (IsVerdictOn t v)
+IsVerdictOf t known v = IsSomeAnd known (IsVerdictOn t v)
 
--- the verdict on a task: its text says how that ended, a missing file or a failure was counted, and the last path is
--- its own
+-- the text of a verdict with this status
+abbrev pub IsTextOf : Status → TaskValue → Option Folder → Option (List ℕ) → (InputFails : Type 0)
+    → (FileFails : List ℕ → Type 0) → List ℕ → Type 0
+IsTextOf Accepted t folder input InputFails FileFails text = IsReport t (result_of t folder input) text
+IsTextOf Refused t folder input InputFails FileFails line =
+    IsStopLine Refused t (result_of t folder input) line ⊎ IsLargeLine t (result_of t folder input) line
+IsTextOf NoFile t folder input InputFails FileFails line = IsStopLine NoFile t (result_of t folder input) line
+IsTextOf ReadFault t folder input InputFails FileFails line = IsFailureLine t folder input InputFails FileFails line
+IsTextOf Usage t folder input InputFails FileFails line = ⊥
+IsTextOf WriteFault t folder input InputFails FileFails line = ⊥
+IsTextOf Memory t folder input InputFails FileFails line = ⊥
+
+-- the verdict on a task: its text says how that ended, a missing file was counted, and the last path is its own
 pub record IsTaskVerdict (t : TaskValue) (folder : Option Folder) (input last : Option (List ℕ))
-    (FailureRose MissRose : Type 0) (v : Verdict) : Type 0 where
-  pub says : Says v.status t folder input last v.text.items
+    (InputFails : Type 0) (FileFails : List ℕ → Type 0) (MissRose : Type 0) (v : Verdict) : Type 0 where
+  pub says : IsTextOf v.status t folder input InputFails FileFails v.text.items
   pub missing : v.status ≡ NoFile → MissRose
-  pub read : v.status ≡ ReadFault → FailureRose
   pub at : LastPath t folder last
 
 -- the reply that a status and a text make; an input that failed has none
@@ -322,15 +337,15 @@ IsReplyOf Memory line reply = ⊥
 
 -- ---- the search for a pattern
 
--- a part of a task ended it with this verdict: at a stop that is answered, as far as that is known, or at a file that
+-- a part of a task ended it with this verdict: at a stop that is answered, as far as that is known, or at a path that
 -- failed
-pub data HasEnded {A S : Type 0} (told : Option (Result A S)) (status : S → Status) (line : S → List ℕ)
-    (Own : S → Type 0) (Failing : List ℕ → Type 0) (FailureRose MissRose : Type 0) (v : Verdict) : Type 0 where
-  AtStop : (s : S) → IsSaid v (status s) (line s) → IfSome told (λ answer. answer ≡ Err s) → Own s
+pub data HasEnded {A S : Type 0} (known : Option (Result A S)) (status : S → Status) (line : S → List ℕ)
+    (Own : S → Type 0) (Failing : List ℕ → Type 0) (MissRose : Type 0) (v : Verdict) : Type 0 where
+  AtStop : (s : S) → IsSaid v (status s) (line s) → IfSome known (λ answer. answer ≡ Err s) → Own s
       → (status s ≡ NoFile → MissRose)
-      → HasEnded told status line Own Failing FailureRose MissRose v
-  AtFailure : (path : List ℕ) → IsSaid v ReadFault (read_fault_line path) → Failing path → FailureRose
-      → HasEnded told status line Own Failing FailureRose MissRose v
+      → HasEnded known status line Own Failing MissRose v
+  AtFailure : (path : List ℕ) → IsSaid v ReadFault (read_fault_line path) → Failing path
+      → HasEnded known status line Own Failing MissRose v
 
 -- an ending by a verdict, where there was memory for it
 abbrev pub ending_of : Result Verdict NoMemory → Ending
@@ -341,10 +356,6 @@ ending_of (Err memory) = endings.Memory
 abbrev pub IfEnded : (Verdict → Type 0) → Ending → Type 0
 IfEnded P (endings.Said v) = P v
 IfEnded P endings.Memory = Unit {0}
-
--- a file was the last to be asked for, as far as that is known
-abbrev pub IsLastAsked : Option (List ℕ) → List ℕ → Type 0
-IsLastAsked at file = IfSome at (λ asked. file ≡ asked)
 
 -- the verdict on a walk over packages that was refused so; none where memory ran out
 abbrev pub IsWalkVerdict : RepoFault → Verdict → Type 0
@@ -372,32 +383,29 @@ AreRequired packages path folder fulls =
     ((is_theory path ≡ true) × IfSome (required_in packages path folder) (λ answer. answer ≡ Ok fulls))
     ⊎ ((is_theory path ≡ false) × (fulls ≡ []))
 
--- a file that the walk over them needs was the last to be asked for
-abbrev pub IsWalkFile : (packages path : List ℕ) → Option Folder → Option (List ℕ) → List ℕ → Type 0
-IsWalkFile packages path folder at file =
-    IfSome folder (λ files. IsWalked files limits.theory_bytes packages path file) × IsLastAsked at file
-
 -- the walk over them ended the task
-abbrev pub HasEndedWalk : (packages path : List ℕ) → Option Folder → Option (List ℕ) → (FailureRose MissRose : Type 0)
-    → Verdict
-    → Type 0
-HasEndedWalk packages path folder at =
+abbrev pub HasEndedWalk : (packages path : List ℕ) → Option Folder → (FileFails : List ℕ → Type 0)
+    → (MissRose : Type 0) → Verdict → Type 0
+HasEndedWalk packages path folder FileFails =
     HasEnded (required_in packages path folder) required_status required_line (λ refusal. is_theory path ≡ true)
-    (λ file. (is_theory path ≡ true) × IsWalkFile packages path folder at file)
+    (λ file. (is_theory path ≡ true)
+    × IfSome folder (λ files. IsWalked files limits.theory_bytes packages path file) × FileFails file)
 
 -- the run of the input ended it
-abbrev pub HasEndedInput : (packages path : List ℕ) → Option Folder → (input at : Option (List ℕ))
-    → (FailureRose MissRose : Type 0) → Verdict → Type 0
-HasEndedInput packages path folder input at =
+abbrev pub HasEndedInput : (packages path : List ℕ) → Option Folder → (input : Option (List ℕ))
+    → (InputFails : Type 0)
+    → (FileFails : List ℕ → Type 0) → (MissRose : Type 0) → Verdict → Type 0
+HasEndedInput packages path folder input InputFails FileFails =
     HasEnded (noted_at packages path folder input) stop_status stop_line
-    (IsInputStop path) (IsFailedPath (ShowReadable packages path) folder at)
+    (IsInputStop path) (IsFailedPath (ShowReadable packages path) folder input InputFails FileFails)
 
--- the pattern did
+-- the pattern ended it
 abbrev pub HasEndedPattern : Noted → (pattern : List ℕ) → Verdict → Type 0
 HasEndedPattern n pattern =
     HasEnded (Some (at_line 1 (term_read (notation n) pattern))) (λ refused. Refused)
-    (λ refused. column_line pattern_path refused.line refused.column refused.fault) (λ refused. Unit {0}) (λ file. ⊥)
-    ⊥ ⊥
+    (λ refused. column_line pattern_path refused.line refused.column refused.fault) (λ refused. refused.line ≡ 1)
+    (λ file. ⊥)
+    ⊥
 
 -- the term that a pattern stands for
 pub record IsPattern (n : Noted) (pattern : List ℕ) (p : Tm Name) : Type 0 where
@@ -408,30 +416,35 @@ pub record IsPattern (n : Noted) (pattern : List ℕ) (p : Tm Name) : Type 0 whe
 abbrev pub runs_in : (packages : List ℕ) → Option Folder → List (List ℕ) → Option (Result (List PackageRun) Stop)
 runs_in packages folder fulls = option_map (λ files. package_runs packages files fulls) folder
 
--- a file that the run of one of them needs was the last to be asked for
+-- a file that the run of one of them needs failed, behind the runs of those before it
 pub record IsRunFile (packages : List ℕ) (fulls : List (List ℕ))
-    (folder : Option Folder) (at : Option (List ℕ)) (file : List ℕ) : Type 0 where
+    (folder : Option Folder) (FileFails : List ℕ → Type 0) (file : List ℕ) : Type 0 where
+  pub front : List (List ℕ)
   pub full : List ℕ
-  pub among : IsMember full fulls
+  pub back : List (List ℕ)
+  pub among : fulls ≡ front ++ full ∷ back
+  pub runs : List PackageRun
+  pub runs_are : IfSome (runs_in packages folder front) (λ answer. answer ≡ Ok runs)
   pub opened : IfSome folder (λ files. IsMember file (theory_run packages (package_path packages full) files).paths)
-  pub last : IsLastAsked at file
+  pub fails : FileFails file
 
 -- the run of one of them ended the task
-abbrev pub HasEndedRuns : (packages : List ℕ) (fulls : List (List ℕ)) → Option Folder → Option (List ℕ)
-    → (FailureRose MissRose : Type 0) → Verdict → Type 0
-HasEndedRuns packages fulls folder at =
+abbrev pub HasEndedRuns : (packages : List ℕ) (fulls : List (List ℕ)) → Option Folder → (FileFails : List ℕ → Type 0)
+    → (MissRose : Type 0) → Verdict → Type 0
+HasEndedRuns packages fulls folder FileFails =
     HasEnded (runs_in packages folder fulls) stop_status stop_line (λ stop. fulls ≢ [])
-    (IsRunFile packages fulls folder at)
+    (IsRunFile packages fulls folder FileFails)
 
 -- the run of a package by its full name ended the task
-abbrev pub HasEndedRun : (packages full : List ℕ) → Option Folder → Option (List ℕ) → (FailureRose MissRose : Type 0)
+abbrev pub HasEndedRun : (packages full : List ℕ) → Option Folder → (FileFails : List ℕ → Type 0)
+    → (MissRose : Type 0)
     → Verdict
     → Type 0
-HasEndedRun packages full folder at =
+HasEndedRun packages full folder FileFails =
     HasEnded (option_map (λ files. (theory_run packages (package_path packages full) files).answer) folder)
     stop_status stop_line (λ stop. Unit {0})
     (λ file. IfSome folder (λ files. IsMember file (theory_run packages (package_path packages full) files).paths)
-    × IsLastAsked at file)
+    × FileFails file)
 
 -- a search has found these matches, and has this limit
 pub record HasMatches (search : Search) (fs : List Found) : Type 0 where
@@ -460,7 +473,7 @@ pub record AreSearched (packages : List ℕ) (fulls : List (List ℕ))
   pub proved : All (λ p. IsProved (run_lists p.ran)) runs
   pub found_more : (fs : List Found) → HasMatches old fs → HasMatches new (fs ++ matches pattern (map source_of runs))
 
--- a search came to its end
+-- a search ended with matches
 pub record HasSearched (packages pattern path : List ℕ) (folder : Option Folder)
     (input : Option (List ℕ)) (search : Search) : Type 0 where
   pub made : Searched
@@ -469,12 +482,12 @@ pub record HasSearched (packages pattern path : List ℕ) (folder : Option Folde
   pub promised : IsSearch pattern path made
   pub found : HasMatches search (found path made)
 
--- or ended at a stop or a failure
-abbrev pub HasEndedSearch : (packages pattern path : List ℕ) → Option Folder → (input at : Option (List ℕ))
-    → (FailureRose MissRose : Type 0) → Verdict → Type 0
-HasEndedSearch packages pattern path folder input at =
+-- a search ended at a stop or a failure
+abbrev pub HasEndedSearch : (packages pattern path : List ℕ) → Option Folder → (input : Option (List ℕ))
+    → (InputFails : Type 0) → (FileFails : List ℕ → Type 0) → (MissRose : Type 0) → Verdict → Type 0
+HasEndedSearch packages pattern path folder input InputFails FileFails =
     HasEnded (find_at packages pattern path folder input) find_status find_line
-    (IsFindStop path) (IsFailedPath (FindPattern packages pattern path) folder at)
+    (IsFindStop path) (IsFailedPath (FindPattern packages pattern path) folder input InputFails FileFails)
 
 -- the text of matches is printed
 abbrev pub FoundEndsAs : (path : List ℕ) → List Found → Verdict → Type 0
@@ -484,7 +497,27 @@ FoundEndsAs path fs v =
 
 -- ---- how the program ends
 
--- with the status of a verdict, or with a write fault where that is to be printed
+-- the statuses with which nothing is written to the output
+abbrev pub IsSilent : Status → Type 0
+IsSilent Accepted = ⊥
+IsSilent WriteFault = ⊥
+IsSilent Refused = Unit {0}
+IsSilent Usage = Unit {0}
+IsSilent NoFile = Unit {0}
+IsSilent ReadFault = Unit {0}
+IsSilent Memory = Unit {0}
+
+-- a text was written, or a front of it at a write fault
+abbrev pub Writes : Status → Option (List ℕ) → Option (List ℕ) → List ℕ → Type 0
+Writes Accepted old new text = Appends old new text
+Writes WriteFault old new text = AppendsFront old new text
+Writes Refused old new text = Unit {0}
+Writes Usage old new text = Unit {0}
+Writes NoFile old new text = Unit {0}
+Writes ReadFault old new text = Unit {0}
+Writes Memory old new text = Unit {0}
+
+-- the program ends with the status of a verdict, or with a write fault where its text is to be printed
 abbrev pub Ends : Status → Status → Type 0
 Ends verdict status = (status ≡ verdict) ⊎ ((verdict ≡ Accepted) × (status ≡ WriteFault))
 

@@ -11,11 +11,10 @@ ghost use Rattle.ot_machine.specs.Meaning.{run_of, IsRun, IsExportIn};
 ghost use Rattle.ot_machine.specs.States.{fresh_run};
 ghost use Rattle.ot_find.specs.Matches.{Found, matches_in};
 ghost use Rattle.ot_repo.specs.Answers.{ArePackages, names_of};
-ghost use Rattle.ot_text.specs.Laws.{OneSequent, OneSequentInFront};
+ghost use Rattle.ot_print.specs.Laws.{TextsNameOne};
 ghost use Rattle.ot_program.specs.Reply.{FindPattern, exports_of, noted_at, run_lists, pattern_path};
 ghost use Rattle.ot_program.specs.Texts.{column_line};
-ghost use Rattle.ot_program.specs.Answer.{FailedAt, FailedIn, IsProved, LeavesOther};
-ghost use Rattle.ot_program.specs.Answer.{LastInput, ClosesFiles};
+ghost use Rattle.ot_program.specs.Answer.{FileFailed, IsProved, LeavesOther, LastInput, ClosesFiles};
 ghost use Rattle.ot_program.specs.Verdicts.{noted_of, ran_from, ending_of, IfEnded, AreRequired, AreSearched};
 ghost use Rattle.ot_program.specs.Verdicts.{FoundEndsAs, HasMatches, HasSearched, IsPattern, IsSaid};
 ghost use Rattle.ot_program.specs.Verdicts.{IsWalkVerdict, HasEndedWalk, HasEndedInput, HasEndedPattern};
@@ -52,7 +51,7 @@ pub struct Query<'a> {
     pub path: &'a str,
 }
 
-/// Why a search doesn't come to its end.
+/// Why a search doesn't end with its matches.
 #[derive(Drop)]
 pub enum Ending {
     /// It ends with this verdict.
@@ -92,9 +91,11 @@ pub fn run_finding<F: Files, S: Source>(
     files: &mut F,
     input: &mut S,
 ) -> Result<Verdict, Memory>
-    ensures verdict { let t = FindPattern query.entry.packages.now query.entry.pattern.now query.entry.path.now in
-        IfOk result (IsTaskVerdict t (F.folder files.old) (S.left input.old) (F.at files.new)
-        (FailedIn t (S.faults input.old) (S.faults input.new) (F.faults files.old) (F.faults files.new))
+    ensures verdict { IfOk result (IsTaskVerdict
+        (FindPattern query.entry.packages.now query.entry.pattern.now query.entry.path.now)
+        (F.folder files.old) (S.left input.old) (F.at files.new)
+        (CountRose (S.faults input.old) (S.faults input.new))
+        (FileFailed (F.at files.new) (F.faults files.old) (F.faults files.new))
         (CountRose (F.misses files.old) (F.misses files.new))) }
     ensures files { ClosesFiles F.folder F.faults F.misses F.left files.old files.new }
     ensures source { KeepsSource S.folder S.faults S.misses S.at input.old input.new }
@@ -115,9 +116,8 @@ fn searched<F: Files, S: Source>(
     input: &mut S,
 ) -> Result<Search, Ending>
     ensures ended { IfErr result (IfEnded (HasEndedSearch query.entry.packages.now query.entry.pattern.now query.entry.path.now
-        (F.folder files.old) (S.left input.old) (F.at files.new)
-        (FailedAt query.entry.path.now (S.faults input.old) (S.faults input.new) (F.faults files.old)
-        (F.faults files.new))
+        (F.folder files.old) (S.left input.old) (CountRose (S.faults input.old) (S.faults input.new))
+        (FileFailed (F.at files.new) (F.faults files.old) (F.faults files.new))
         (CountRose (F.misses files.old) (F.misses files.new)))) }
     ensures searched { IfOk result (HasSearched query.entry.packages.now query.entry.pattern.now
         query.entry.path.now (F.folder files.old) (S.left input.old)) }
@@ -147,9 +147,8 @@ fn search_input<F: Files, S: Source>(
     requires session { IsRun session.old }
     requires fresh { run_of session.old ≡ fresh_run }
     ensures ended { IfErr result (IfEnded (HasEndedSearch query.entry.packages.now query.entry.pattern.now query.entry.path.now
-        (F.folder files.old) (S.left input.old) (F.at files.new)
-        (FailedAt query.entry.path.now (S.faults input.old) (S.faults input.new) (F.faults files.old)
-        (F.faults files.new))
+        (F.folder files.old) (S.left input.old) (CountRose (S.faults input.old) (S.faults input.new))
+        (FileFailed (F.at files.new) (F.faults files.old) (F.faults files.new))
         (CountRose (F.misses files.old) (F.misses files.new)))) }
     ensures searched { IfOk result (HasSearched query.entry.packages.now query.entry.pattern.now
         query.entry.path.now (F.folder files.old) (S.left input.old)) }
@@ -181,8 +180,8 @@ fn search_run<F: Files>(
         → IfSome (noted_at query.entry.packages.now query.entry.path.now (F.folder files.old) input)
         (λ answer. answer ≡ Ok (noted_of session.now run.now))
         → IfErr result (IfEnded (HasEndedSearch query.entry.packages.now query.entry.pattern.now
-        query.entry.path.now (F.folder files.old) input (F.at files.new)
-        (FailedAt query.entry.path.now i j (F.faults files.old) (F.faults files.new))
+        query.entry.path.now (F.folder files.old) input (CountRose i j)
+        (FileFailed (F.at files.new) (F.faults files.old) (F.faults files.new))
         (CountRose (F.misses files.old) (F.misses files.new)))) }
     ensures searched { (input : Option (List ℕ))
         → AreRequired query.entry.packages.now query.entry.path.now (F.folder files.old) (map string_bytes fulls.now)
@@ -208,8 +207,8 @@ fn required_packages<F: Files>(
     path: &str,
     files: &mut F,
 ) -> Result<Vec<String>, Ending>
-    ensures ended { IfErr result (IfEnded (HasEndedWalk packages.now path.now (F.folder files.old) (F.at files.new)
-        (CountRose (F.faults files.old) (F.faults files.new))
+    ensures ended { IfErr result (IfEnded (HasEndedWalk packages.now path.now (F.folder files.old)
+        (FileFailed (F.at files.new) (F.faults files.old) (F.faults files.new))
         (CountRose (F.misses files.old) (F.misses files.new)))) }
     ensures required { IfOk result (λ fulls. AreRequired packages.now path.now (F.folder files.old) (names_of fulls)) }
     ensures full { IfOk result (λ fulls. ArePackages (names_of fulls)) }
@@ -279,8 +278,8 @@ fn input_run<F: Files, S: Source>(
     requires session { IsRun session.old }
     requires fresh { run_of session.old ≡ fresh_run }
     ensures ended { IfErr result (IfEnded (HasEndedInput packages.now
-        path.now (F.folder files.old) (S.left input.old) (F.at files.new)
-        (FailedAt path.now (S.faults input.old) (S.faults input.new) (F.faults files.old) (F.faults files.new))
+        path.now (F.folder files.old) (S.left input.old) (CountRose (S.faults input.old) (S.faults input.new))
+        (FileFailed (F.at files.new) (F.faults files.old) (F.faults files.new))
         (CountRose (F.misses files.old) (F.misses files.new)))) }
     ensures ran { IfOk result (λ run. IfSome (noted_at packages.now path.now (F.folder files.old) (S.left input.old))
         (λ answer. answer ≡ Ok (noted_of session.new run))) }
@@ -341,8 +340,8 @@ fn search_packages<F: Files>(
 ) -> Result<(), Ending>
     requires full { ArePackages (map string_bytes fulls.now) }
     ensures ended { IfErr result (IfEnded (HasEndedRuns packages.now
-        (map string_bytes fulls.now) (F.folder files.old) (F.at files.new)
-        (CountRose (F.faults files.old) (F.faults files.new))
+        (map string_bytes fulls.now) (F.folder files.old)
+        (FileFailed (F.at files.new) (F.faults files.old) (F.faults files.new))
         (CountRose (F.misses files.old) (F.misses files.new)))) }
     ensures searched { OnOk result (AreSearched packages.now (map string_bytes fulls.now)
         (F.folder files.old) (term_of_tree pattern.now) search.old search.new) }
@@ -366,8 +365,8 @@ fn search_package<F: Files>(
     search: &mut Search,
 ) -> Result<(), Ending>
     requires { is_package full.now ≡ true }
-    ensures ended { IfErr result (IfEnded (HasEndedRun packages.now full.now (F.folder files.old) (F.at files.new)
-        (CountRose (F.faults files.old) (F.faults files.new))
+    ensures ended { IfErr result (IfEnded (HasEndedRun packages.now full.now (F.folder files.old)
+        (FileFailed (F.at files.new) (F.faults files.old) (F.faults files.new))
         (CountRose (F.misses files.old) (F.misses files.new)))) }
     ensures searched { OnOk result (IsSearched packages.now full.now
         (F.folder files.old) (term_of_tree pattern.now) search.old search.new) }
@@ -413,8 +412,7 @@ fn search_exports(
 /// The matches of a search, or the line for a text that is too large.
 fn found_verdict(alloc: Global, path: &str, search: Search) -> Result<Verdict, Memory>
     ensures ends { (fs : List Found) → HasMatches search fs → IfOk result (FoundEndsAs path.now fs) }
-    ensures one_text { OneSequent }
-    ensures one_in_front { OneSequentInFront }
+    ensures one_text { TextsNameOne }
 {
     one_text();
     let mut text = Vec::new(alloc);

@@ -1,5 +1,4 @@
 ghost use Rattle.std.specs.Prelude.{◌≡◌, [], Some, IfOk, IfErr, IfSome, string_bytes};
-ghost use Rattle.std.specs.Option.{option_map};
 ghost use Rattle.ot_io.specs.Causes.{CountRose};
 ghost use Rattle.ot_io.specs.Folder.{path_asked};
 ghost use Rattle.ot_io.specs.Keeping.{KeepsSource};
@@ -7,10 +6,10 @@ ghost use Rattle.ot_link.specs.Blocks.{article_end};
 ghost use Rattle.ot_link.specs.Answers.{AreExportsIn, NamesSymbolIn};
 ghost use Rattle.ot_machine.specs.States.{fresh_run};
 ghost use Rattle.ot_machine.specs.Meaning.{run_of, IsRun};
-ghost use Rattle.ot_program.specs.Reply.{outcome, article_run, theory_run, stop_status};
-ghost use Rattle.ot_program.specs.Answer.{FailedAt, LeavesOther, LastPath, ClosesFiles};
-ghost use Rattle.ot_program.specs.Verdicts.{job_task, end_of, IsAnswer, IsEnd, IsPlace};
-ghost use Rattle.ot_program.specs.Verdicts.{IsOwnEnd, IsNeeded, HasCause, IsLawfulEnd};
+ghost use Rattle.ot_program.specs.Reply.{outcome, article_run, theory_run};
+ghost use Rattle.ot_program.specs.Answer.{FileFailed, LeavesOther, LastPath, ClosesFiles};
+ghost use Rattle.ot_program.specs.Verdicts.{job_task, end_of, IsAnswer, IsEnd};
+ghost use Rattle.ot_program.specs.Verdicts.{HasTaskCause, HasOwnCause, HasTheoryCause, IsLawfulEnd};
 
 use crate::task::Job;
 use ot_args::is_theory;
@@ -36,14 +35,14 @@ pub fn run_input<F: Files, S: Source>(
     requires fresh { run_of session.old ≡ fresh_run }
     ensures end { IfSome (end_of session.new result)
         (IsEnd (job_task job.entry) (F.folder files.old) (S.left input.old)) }
-    ensures place { IfSome (end_of session.new result) (IsPlace (job_task job.entry) (F.folder files.old) (F.at files.new)) }
     ensures session { IsRun session.new }
     ensures exports { IfOk result (AreExportsIn session.new) }
     ensures lawful { IfOk result (IsLawfulEnd session.new) }
     ensures symbols { IfErr result (NamesSymbolIn session.new.kernel) }
     ensures cause { IfSome (end_of session.new result)
-        (HasCause stop_status (FailedAt job.entry.path.now (S.faults input.old)
-        (S.faults input.new) (F.faults files.old) (F.faults files.new))
+        (HasTaskCause (job_task job.entry) (F.folder files.old) (S.left input.old)
+        (CountRose (S.faults input.old) (S.faults input.new))
+        (FileFailed (F.at files.new) (F.faults files.old) (F.faults files.new))
         (CountRose (F.misses files.old) (F.misses files.new))) }
     ensures files { ClosesFiles F.folder F.faults F.misses F.left files.old files.new }
     ensures source { KeepsSource S.folder S.faults S.misses S.at input.old input.new }
@@ -72,13 +71,12 @@ fn run_standard<S: Source>(
     requires fresh { run_of session.old ≡ fresh_run }
     ensures end { IfSome (S.left input.old) (λ bytes. IfSome (end_of session.new result)
         (IsAnswer (article_end path.now (outcome bytes)))) }
-    ensures own { IfSome (end_of session.new result) (IsOwnEnd path.now) }
     ensures session { IsRun session.new }
     ensures exports { IfOk result (AreExportsIn session.new) }
     ensures lawful { IfOk result (IsLawfulEnd session.new) }
     ensures symbols { IfErr result (NamesSymbolIn session.new.kernel) }
     ensures cause { IfSome (end_of session.new result)
-        (HasCause stop_status (CountRose (S.faults input.old) (S.faults input.new)) ⊥) }
+        (HasOwnCause path.now (CountRose (S.faults input.old) (S.faults input.new)) ⊥) }
     ensures source { KeepsSource S.folder S.faults S.misses S.at input.old input.new }
 {
     let path = String::from_str(alloc, path)?;
@@ -97,15 +95,13 @@ pub fn run_theory<F: Files>(
     requires fresh { run_of session.old ≡ fresh_run }
     ensures end { IfSome (F.folder files.old) (λ folder. IfSome (end_of session.new result)
         (IsAnswer (theory_run packages.now path.now folder).answer)) }
-    ensures needed { IfSome (end_of session.new result)
-        (IsNeeded (option_map (λ folder. (theory_run packages.now path.now folder).paths) (F.folder files.old))
-        (F.at files.new)) }
     ensures session { IsRun session.new }
     ensures exports { IfOk result (AreExportsIn session.new) }
     ensures lawful { IfOk result (IsLawfulEnd session.new) }
     ensures symbols { IfErr result (NamesSymbolIn session.new.kernel) }
     ensures cause { IfSome (end_of session.new result)
-        (HasCause stop_status (CountRose (F.faults files.old) (F.faults files.new))
+        (HasTheoryCause packages.now path.now (F.folder files.old)
+        (FileFailed (F.at files.new) (F.faults files.old) (F.faults files.new))
         (CountRose (F.misses files.old) (F.misses files.new))) }
     ensures files { ClosesFiles F.folder F.faults F.misses F.left files.old files.new }
     ensures closed { F.left files.new ≡ Some [] }
@@ -125,13 +121,12 @@ fn run_file<F: Files>(
     requires fresh { run_of session.old ≡ fresh_run }
     ensures end { IfSome (F.folder files.old) (λ folder. IfSome
         (end_of session.new result) (IsAnswer (article_run path.now folder).answer)) }
-    ensures own { IfSome (end_of session.new result) (IsOwnEnd path.now) }
     ensures session { IsRun session.new }
     ensures exports { IfOk result (AreExportsIn session.new) }
     ensures lawful { IfOk result (IsLawfulEnd session.new) }
     ensures symbols { IfErr result (NamesSymbolIn session.new.kernel) }
     ensures cause { IfSome (end_of session.new result)
-        (HasCause stop_status (CountRose (F.faults files.old) (F.faults files.new))
+        (HasOwnCause path.now (CountRose (F.faults files.old) (F.faults files.new))
         (CountRose (F.misses files.old) (F.misses files.new))) }
     ensures files { ClosesFiles F.folder F.faults F.misses F.left files.old files.new }
     ensures at { IfSome (end_of session.new result) (λ _. F.at files.new ≡ path_asked (F.folder files.old) path.now) }
@@ -160,13 +155,12 @@ pub fn run_article<S: Source>(
     requires fresh { run_of session.old ≡ fresh_run }
     ensures end { IfSome (S.left source.old) (λ bytes. IfSome (end_of session.new result)
         (IsAnswer (article_end (string_bytes path) (outcome bytes)))) }
-    ensures own { IfSome (end_of session.new result) (IsOwnEnd (string_bytes path)) }
     ensures session { IsRun session.new }
     ensures exports { IfOk result (AreExportsIn session.new) }
     ensures lawful { IfOk result (IsLawfulEnd session.new) }
     ensures symbols { IfErr result (NamesSymbolIn session.new.kernel) }
     ensures cause { IfSome (end_of session.new result)
-        (HasCause stop_status (CountRose (S.faults source.old) (S.faults source.new)) ⊥) }
+        (HasOwnCause (string_bytes path) (CountRose (S.faults source.old) (S.faults source.new)) ⊥) }
     ensures source { KeepsSource S.folder S.faults S.misses S.at source.old source.new }
 {
     let limits = Limits::standard();

@@ -5,8 +5,8 @@ ghost use Rattle.ot_io.specs.Folder.{path_asked};
 ghost use Rattle.ot_io.specs.Keeping.{KeepsSource};
 ghost use Rattle.ot_verify.specs.Verifying.{AreProved};
 ghost use Rattle.ot_program.specs.Reply.{CheckLog, check_bytes, check_file, log_status};
-ghost use Rattle.ot_program.specs.Answer.{FailedAt, LeavesOther, LastPath, ClosesFiles};
-ghost use Rattle.ot_program.specs.Verdicts.{log_end_of, IsAnswer, IsEnd, IsPlace, HasCause};
+ghost use Rattle.ot_program.specs.Answer.{FileFailed, LeavesOther, LastPath, ClosesFiles};
+ghost use Rattle.ot_program.specs.Verdicts.{log_end_of, IsAnswer, IsEnd, HasCause, HasTaskCause};
 
 use crate::input::STANDARD;
 use ot_io::{Files, OpenFault, Source};
@@ -36,10 +36,10 @@ pub fn check_log<F: Files, S: Source>(
 ) -> Result<Verified, LogRefusal>
     ensures end { IfSome (log_end_of path.now result)
         (IsEnd (CheckLog path.now) (F.folder files.old) (S.left input.old)) }
-    ensures place { IfSome (log_end_of path.now result) (IsPlace (CheckLog path.now) (F.folder files.old) (F.at files.new)) }
     ensures proved { IfOk result AreProved }
-    ensures cause { IfSome (log_end_of path.now result) (HasCause log_status
-        (FailedAt path.now (S.faults input.old) (S.faults input.new) (F.faults files.old) (F.faults files.new))
+    ensures cause { IfSome (log_end_of path.now result) (HasTaskCause (CheckLog path.now) (F.folder files.old) (S.left input.old)
+        (CountRose (S.faults input.old) (S.faults input.new))
+        (FileFailed (F.at files.new) (F.faults files.old) (F.faults files.new))
         (CountRose (F.misses files.old) (F.misses files.new))) }
     ensures files { ClosesFiles F.folder F.faults F.misses F.left files.old files.new }
     ensures source { KeepsSource S.folder S.faults S.misses S.at input.old input.new }
@@ -60,7 +60,7 @@ fn check_file<F: Files>(alloc: Global, path: &str, files: &mut F) -> Result<Veri
         IfSome (log_end_of path.now result) (IsAnswer (check_file path.now folder))) }
     ensures proved { IfOk result AreProved }
     ensures cause { IfSome (log_end_of path.now result)
-        (HasCause log_status (CountRose (F.faults files.old) (F.faults files.new))
+        (HasCause log_status (λ stop. Unit {0}) (λ failed. CountRose (F.faults files.old) (F.faults files.new))
         (CountRose (F.misses files.old) (F.misses files.new))) }
     ensures files { ClosesFiles F.folder F.faults F.misses F.left files.old files.new }
     ensures at { F.at files.new ≡ path_asked (F.folder files.old) path.now }
@@ -82,8 +82,8 @@ fn check_source<S: Source>(alloc: Global, source: &mut S) -> Result<Verified, Lo
         → IfSome (S.left source.old) (λ bytes. IfSome (log_end_of path result) (IsAnswer (check_bytes bytes))) }
     ensures proved { IfOk result AreProved }
     ensures cause { (path : List ℕ)
-        → IfSome (log_end_of path result)
-        (HasCause log_status (CountRose (S.faults source.old) (S.faults source.new)) ⊥) }
+        → IfSome (log_end_of path result) (HasCause log_status (λ stop. Unit {0})
+        (λ failed. CountRose (S.faults source.old) (S.faults source.new)) ⊥) }
     ensures source { KeepsSource S.folder S.faults S.misses S.at source.old source.new }
 {
     let limit = Limits::standard().article_bytes;

@@ -8,9 +8,9 @@ ghost use Rattle.ot_link.specs.Answers.{NamesSymbolIn, Comes, HasCause as HasLin
 ghost use Rattle.ot_machine.specs.Meaning.{run_of, IsRun, IsExportIn};
 ghost use Rattle.ot_machine.specs.States.{fresh_run};
 ghost use Rattle.ot_args.specs.Grammar.{is_theory};
-ghost use Rattle.ot_program.specs.Reply.{ShowReadable, shown_at, stop_status};
-ghost use Rattle.ot_program.specs.Answer.{FailedAt, LeavesOther, LastInput, ClosesFiles};
-ghost use Rattle.ot_program.specs.Verdicts.{noted_end_of, IsEnd, IsPlace, HasCause, IsLawfulEnds};
+ghost use Rattle.ot_program.specs.Reply.{ShowReadable, shown_at};
+ghost use Rattle.ot_program.specs.Answer.{FileFailed, LeavesOther, LastInput, ClosesFiles};
+ghost use Rattle.ot_program.specs.Verdicts.{noted_end_of, IsEnd, HasTaskCause, IsLawfulEnds};
 
 use crate::input::run_input;
 use crate::task::{Job, View};
@@ -41,15 +41,14 @@ pub fn run_noted<F: Files, S: Source>(
     requires fresh { run_of session.old ≡ fresh_run }
     ensures end { IfSome (noted_end_of session.new result)
         (IsEnd (ShowReadable packages.now path.now) (F.folder files.old) (S.left input.old)) }
-    ensures place { IfSome (noted_end_of session.new result)
-        (IsPlace (ShowReadable packages.now path.now) (F.folder files.old) (F.at files.new)) }
     ensures session { IsRun session.new }
     ensures exports { IfOk result (λ r. All (IsExportIn session.new) r.exports.items) }
     ensures lawful { IfOk result (λ r. IsLawfulEnds session.new r.exports.items) }
     ensures symbols { IfErr result (NamesSymbolIn session.new.kernel) }
     ensures cause { IfSome (noted_end_of session.new result)
-        (HasCause stop_status (FailedAt path.now (S.faults input.old)
-        (S.faults input.new) (F.faults files.old) (F.faults files.new))
+        (HasTaskCause (ShowReadable packages.now path.now) (F.folder files.old) (S.left input.old)
+        (CountRose (S.faults input.old) (S.faults input.new))
+        (FileFailed (F.at files.new) (F.faults files.old) (F.faults files.new))
         (CountRose (F.misses files.old) (F.misses files.new))) }
     ensures files { ClosesFiles F.folder F.faults F.misses F.left files.old files.new }
     ensures source { KeepsSource S.folder S.faults S.misses S.at input.old input.new }

@@ -1,13 +1,13 @@
-ghost use Rattle.std.specs.Prelude.{◌≡◌, ◌≢◌, ◌↔◌, ◌⊎◌, ◌≤◌, None, Err, IfOk, IfSome, IsSomeAnd, OnOk, OnErr};
+ghost use Rattle.std.specs.Prelude.{◌≡◌, ◌≢◌, ◌↔◌, ◌⊎◌, ◌≤◌, None, Err, IfOk, IfSome, OnOk, OnErr};
 ghost use Rattle.std.specs.Io.KnownBytes.{Appends};
 ghost use Rattle.ot_io.specs.Causes.{CountRose, HasCause};
 ghost use Rattle.ot_io.specs.Keeping.{KeepsSource};
 ghost use Rattle.ot_io.specs.Sinks.{FlushesAll, AppendsFront};
 ghost use Rattle.ot_args.specs.Grammar.{texts_of, command_of};
-ghost use Rattle.ot_program.specs.Reply.{task_of, result_of, answer};
-ghost use Rattle.ot_program.specs.Answer.{MatchesReply, IsSilent, IsVerdict, IsLine, Prints, Writes, WritesLine};
-ghost use Rattle.ot_program.specs.Answer.{WritesSome, FailedIn, LeavesAlone, LastPath, ClosesFiles};
-ghost use Rattle.ot_program.specs.Verdicts.{task_value, IsSized, IsTaskVerdict, Ends, error_line};
+ghost use Rattle.ot_program.specs.Reply.{task_of, answer};
+ghost use Rattle.ot_program.specs.Answer.{MatchesReply, Outputs, IsOutput, SaysWhy, IsErrorLine, WritesLine, FileFailed};
+ghost use Rattle.ot_program.specs.Answer.{LeavesAlone, LeavesUnasked, LastPath, ClosesFiles};
+ghost use Rattle.ot_program.specs.Verdicts.{task_value, IsSized, IsTaskVerdict, IsSilent, Writes, Ends, error_line};
 
 use crate::finding::{Query, run_finding};
 use crate::input::run_input;
@@ -26,27 +26,28 @@ use ot_logic::Memory;
 use ot_machine::Session;
 use std::alloc::Global;
 
-/// All that the program does with the command's words, without the program's name. `check` runs an input and reports
-/// how many theorems, assumptions and definitions it has; `info` reports which, and with `--readable` in a form that
-/// reads back. `-` is an article on `input`, a name that ends in `.thy` a theory file over packages in a folder, and
-/// any other name an article file. `read` runs an input, and prints the sequents that the lines of a readable text
-/// stand for. `find` runs an input and the packages that it requires, and prints those of their exports whose
-/// conclusion a pattern matches. `link` and `minimise` run an input and write an article of its exports that has what
-/// they need and nothing else, and `prove` writes a proof log of them;
-/// `sample` makes an article of a size, runs it and rewrites it. `verify` checks a proof log, on `input` for `-` and else in a
-/// file, and reports what it proves. The text is made whole, then written to `out` and flushed; each status but
-/// `Accepted` has its line on `err`. Whether `err` takes it changes no status.
+/// All that the program does with the command's words, without the program's name. `check` runs an input and
+/// reports how many theorems, assumptions and definitions it has; `info` reports which, with `--readable` in a form
+/// that reads back, and with `--uses` what each theorem rests on. `-` is an article on `input`, a name that ends in
+/// `.thy` a theory file over packages in a folder, and any other name an article file. `read` runs an input, and
+/// prints the sequents that the lines of a readable text stand for. `find` runs an input and the packages that it
+/// requires, and prints those of their exports whose conclusion a pattern matches. `link` and `minimise` run an
+/// input and write an article of its exports that has what they need and nothing else, and `prove` writes a proof
+/// log of them. `sample` makes an article of a size, runs it and rewrites it, or with `--article` prints it.
+/// `verify` checks a proof log, on `input` for `-` and else in a file, and reports what it proves. The text is made
+/// whole, then written to `out` and flushed; each status but `Accepted` has its line on `err`. Whether `err` takes
+/// it changes no status.
 ///
 /// - `Accepted`: the run or the log ended, and all of the text was written and flushed.
-/// - `Refused`: the run stopped, at the first fault and its line by the article format or the theory file format, in the file
-///   that the line names; or the log has a fault, the first at that line; or a line of the readable text is refused, the first at
-///   that line and column, or the text has more than 1,048,576 bytes; or what a theory file requires is refused, or a pattern, at
-///   its column; or what would be printed has more than 67,108,864 bytes, or the written article or the proof log more than
-///   4,294,967,296.
+/// - `Refused`: the run stopped, at the first fault and its line by the article format or the theory file format,
+///   in the file that the line names; or the log has a fault, the first at that line; or a line of the readable
+///   text is refused, the first at that line and column, or the text has more than 1,048,576 bytes; or what a
+///   theory file requires is refused, or a pattern, at its column; or what would be printed has more than
+///   67,108,864 bytes, or the written article or the proof log more than 4,294,967,296.
 /// - `Usage`: exactly for words that are no command. It takes no memory and reads nothing.
 /// - `NoFile`: only where a file was missing in this call.
-/// - `ReadFault`: only where what the command reads failed in this call: `input` for `-`, else `files`, at a file that the
-///   command needs; the readable text is always a file.
+/// - `ReadFault`: only where what the command reads failed in this call: `input` for `-`, else `files`, at a file
+///   that the command needs; the readable text is always a file.
 /// - `WriteFault`: only where the input is accepted and `out` failed in this call; a front of the text was written.
 /// - `Memory`: may come at any point before the text is made; then no more memory is taken.
 pub fn run<F: Files, S: Source, O: Sink, E: Sink>(
@@ -57,49 +58,46 @@ pub fn run<F: Files, S: Source, O: Sink, E: Sink>(
     out: &mut O,
     err: &mut E,
 ) -> Status
-    // Status 2 comes exactly for words that are no command, and then nothing is read.
+    // Status 2 comes exactly for words that are no command.
     ensures usage { (result ≡ Status.Usage) ↔ (command_of (texts_of words.now) ≡ None) }
-    ensures unread { result ≡ Status.Usage → (files.new ≡ files.old) × (input.new ≡ input.old) }
 
-    // Where what the words name is known, the status and the texts on both sinks are the stated reply's.
+    // Where what the words name is known, the status and the texts are the stated reply's, unless a device fails or
+    // memory runs out.
     ensures answer { IfSome (answer (texts_of words.now) (F.folder files.old) (S.left input.old))
-        (λ reply. MatchesReply result reply (O.written out.old) (O.written out.new)) }
-    ensures error { IsVerdict result → IfSome (answer (texts_of words.now) (F.folder files.old) (S.left input.old))
-        (λ reply. WritesLine E.written E.faults err.old err.new reply.error) }
+        (λ reply. MatchesReply result reply (O.written out.old) (O.written out.new)
+        (WritesLine E.written E.faults err.old err.new)) }
 
-    // What is printed is a report on the run, or on the log: its theorems are derivable from its assumptions under its
-    // definitions, told or not, and readable text reads back; no other status prints.
-    ensures proved { ¬ IsSilent result → IsSomeAnd (task_of (texts_of words.now))
-        (λ t. Prints result t (result_of t (F.folder files.old) (S.left input.old)) (O.written out.old)
-        (O.written out.new)) }
-    ensures silent { IsSilent result → out.new ≡ out.old }
-    ensures flushed { result ≡ Status.Accepted → FlushesAll (O.flushed out.old) (O.written out.new) (O.flushed out.new) }
+    // Known or not: what is printed is a report on the run, or on the log, whose theorems are derivable from its
+    // assumptions under its definitions; with status 0 it is flushed, with 5 a front of it is written, with any other
+    // nothing.
+    ensures output { Outputs result O.written O.flushed out.old out.new
+        (IsOutput (task_of (texts_of words.now)) (F.folder files.old) (S.left input.old)) }
 
-    // What stands on the error sink is the status's line, told or not: of status 1 some fault's, of 3 and 4 a path's.
-    ensures quiet { result ≡ Status.Accepted → err.new ≡ err.old }
-    ensures line { ¬ (result ≡ Status.Accepted) → WritesSome
-        (IsLine result (task_of (texts_of words.now)) (F.folder files.old) (S.left input.old) (F.at files.new))
-        E.written E.faults err.old err.new }
+    // Known or not: with status 0 nothing is said, and else the status's line: of 1 that of a fault or of a text that is
+    // too large, of 3 and 4 a path's. The device that 3, 4 or 5 blames counted it in this call.
+    ensures error { SaysWhy result E.written E.faults err.old err.new
+        (IsErrorLine result (task_of (texts_of words.now)) (F.folder files.old) (S.left input.old) (record {
+          input = CountRose (S.faults input.old) (S.faults input.new);
+          file = FileFailed (F.at files.new) (F.faults files.old) (F.faults files.new);
+          missing = CountRose (F.misses files.old) (F.misses files.new);
+          output = CountRose (O.faults out.old) (O.faults out.new);
+        })) }
+    // With 3 and 4 the path asked for last is the one that the words name, where that is an article's, a log's or a text's.
+    ensures at { (result ≡ Status.NoFile) ⊎ (result ≡ Status.ReadFault)
+        → IfSome (task_of (texts_of words.now)) (λ t. LastPath t (F.folder files.old) (F.at files.new)) }
 
-    // Statuses 3, 4 and 5 come only where the device that they name counted it; all else is as stated, or memory ran
-    // out.
-    ensures missing { result ≡ Status.NoFile → CountRose (F.misses files.old) (F.misses files.new) }
-    ensures read { result ≡ Status.ReadFault → IfSome (task_of (texts_of words.now))
-        (λ t. FailedIn t (S.faults input.old) (S.faults input.new) (F.faults files.old) (F.faults files.new)) }
-    ensures write { result ≡ Status.WriteFault → CountRose (O.faults out.old) (O.faults out.new) }
+    // So where no count rose, the status is the stated one, or memory ran out.
     ensures complete { IfSome (answer (texts_of words.now) (F.folder files.old) (S.left input.old)) (λ reply.
         ¬ CountRose (S.faults input.old) (S.faults input.new)
         → ¬ CountRose (F.faults files.old) (F.faults files.new)
         → ¬ CountRose (O.faults out.old) (O.faults out.new)
         → (result ≡ Status.Memory) ⊎ (result ≡ reply.status)) }
 
-    // What becomes of the devices: counts never fall, the input that isn't asked for is left alone, no file stays open.
+    // What the words don't ask for is left alone, counts never fall, and no file that was opened stays open.
+    ensures other { LeavesUnasked (task_of (texts_of words.now)) files.old files.new input.old input.new }
     ensures files { ClosesFiles F.folder F.faults F.misses F.left files.old files.new }
     ensures source { KeepsSource S.folder S.faults S.misses S.at input.old input.new }
     ensures sinks { (O.faults out.old ≤ O.faults out.new) × (E.faults err.old ≤ E.faults err.new) }
-    ensures other { IfSome (task_of (texts_of words.now)) (λ t. LeavesAlone t files.old files.new input.old input.new) }
-    ensures at { (result ≡ Status.NoFile) ⊎ (result ≡ Status.ReadFault)
-        → IfSome (task_of (texts_of words.now)) (λ t. LastPath t (F.folder files.old) (F.at files.new)) }
 {
     match read_task(words) {
         Ok(task) => match run_task(alloc, task, files, input) {
@@ -116,8 +114,8 @@ pub fn run<F: Files, S: Source, O: Sink, E: Sink>(
     }
 }
 
-/// Runs an input or a sample in a fresh session, makes a sample, or checks a log, and makes the text for what that
-/// came to.
+/// Runs an input or a sample in a fresh session, makes a sample, or checks a log, and makes the text that reports the
+/// result.
 fn run_task<F: Files, S: Source>(
     alloc: Global,
     task: Task<'_>,
@@ -126,8 +124,8 @@ fn run_task<F: Files, S: Source>(
 ) -> Result<Verdict, Memory>
     requires { IsSized (task_value task) }
     ensures verdict { IfOk result (IsTaskVerdict (task_value task.entry) (F.folder files.old) (S.left input.old) (F.at files.new)
-        (FailedIn (task_value task.entry) (S.faults input.old) (S.faults input.new) (F.faults files.old)
-        (F.faults files.new))
+        (CountRose (S.faults input.old) (S.faults input.new))
+        (FileFailed (F.at files.new) (F.faults files.old) (F.faults files.new))
         (CountRose (F.misses files.old) (F.misses files.new))) }
     ensures files { ClosesFiles F.folder F.faults F.misses F.left files.old files.new }
     ensures source { KeepsSource S.folder S.faults S.misses S.at input.old input.new }

@@ -9,9 +9,9 @@ ghost use Rattle.ot_parse.specs.Plain.{sequent_of};
 ghost use Rattle.ot_theory.specs.Lines.{lines_of};
 ghost use Rattle.ot_read.specs.Laws.{StandFor};
 ghost use Rattle.ot_read.specs.Lines.{lines_read, IsLineRefusal};
-ghost use Rattle.ot_program.specs.Reply.{ReadLines, notation, read_in, read_status, text_in};
-ghost use Rattle.ot_program.specs.Answer.{FailedIn, LeavesAlone, ClosesFiles};
-ghost use Rattle.ot_program.specs.Verdicts.{noted_of, read_end_of, IsAnswer, HasCause, IsVerdictOf};
+ghost use Rattle.ot_program.specs.Reply.{ReadLines, notation, read_in, text_in};
+ghost use Rattle.ot_program.specs.Answer.{FileFailed, LeavesAlone, ClosesFiles};
+ghost use Rattle.ot_program.specs.Verdicts.{noted_of, read_end_of, IsAnswer, IsVerdictOf};
 ghost use Rattle.ot_program.specs.Verdicts.{IsTextRefusal, IsTextCause, IsPrintedAs, IsTaskVerdict};
 
 use crate::noted::{NotedRun, run_noted};
@@ -66,9 +66,10 @@ pub fn run_reading<F: Files, S: Source>(
     files: &mut F,
     input: &mut S,
 ) -> Result<Verdict, Memory>
-    ensures verdict { let t = ReadLines packages.now path.now text.now in
-        IfOk result (IsTaskVerdict t (F.folder files.old) (S.left input.old) (F.at files.new)
-        (FailedIn t (S.faults input.old) (S.faults input.new) (F.faults files.old) (F.faults files.new))
+    ensures verdict { IfOk result (IsTaskVerdict (ReadLines packages.now path.now text.now)
+        (F.folder files.old) (S.left input.old) (F.at files.new)
+        (CountRose (S.faults input.old) (S.faults input.new))
+        (FileFailed (F.at files.new) (F.faults files.old) (F.faults files.new))
         (CountRose (F.misses files.old) (F.misses files.new))) }
     ensures files { ClosesFiles F.folder F.faults F.misses F.left files.old files.new }
     ensures source { KeepsSource S.folder S.faults S.misses S.at input.old input.new }
@@ -99,8 +100,8 @@ fn read_text<F: Files>(
         (IsAnswer (read_in (noted_of session.now run.now) text.now folder))) }
     ensures stand { IfOk result (λ r. StandFor (notation (noted_of session.now run.now))
         (lines_of r.bytes.items) (map sequent_of r.sequents.items)) }
-    ensures cause { IfSome (read_end_of text.now (noted_of session.now run.now) result)
-        (HasCause read_status (CountRose (F.faults files.old) (F.faults files.new))
+    ensures cause { IfErr result
+        (λ e. IsTextCause e (FileFailed (F.at files.new) (F.faults files.old) (F.faults files.new) text.now)
         (CountRose (F.misses files.old) (F.misses files.new))) }
     ensures files { ClosesFiles F.folder F.faults F.misses F.left files.old files.new }
     ensures at { F.at files.new ≡ path_asked (F.folder files.old) text.now }
@@ -131,7 +132,7 @@ fn bytes_of<F: Files>(alloc: Global, text: &str, files: &mut F) -> Result<Vec<u8
         (λ folder. IfOk result (λ bytes. text_in text.now folder ≡ Ok bytes.items)) }
     ensures refused { IfSome (F.folder files.old) (λ folder. IfErr result (IsTextRefusal (text_in text.now folder))) }
     ensures cause { IfErr result
-        (λ e. IsTextCause e (CountRose (F.faults files.old) (F.faults files.new))
+        (λ e. IsTextCause e (FileFailed (F.at files.new) (F.faults files.old) (F.faults files.new) text.now)
         (CountRose (F.misses files.old) (F.misses files.new))) }
     ensures files { ClosesFiles F.folder F.faults F.misses F.left files.old files.new }
     ensures at { F.at files.new ≡ path_asked (F.folder files.old) text.now }

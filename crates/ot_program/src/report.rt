@@ -1,9 +1,9 @@
-ghost use Rattle.std.specs.Prelude.{◌≡◌, ◌++◌, true, false, [], length, map};
+ghost use Rattle.std.specs.Prelude.{◌≡◌, ◌++◌, true, false, [], map};
 ghost use Rattle.std.specs.Prelude.{IfOk, IfErr, IfSome, IfNone, IsSomeAnd, OnOk};
 ghost use Rattle.std.specs.List.{All};
 ghost use Rattle.ot_link.specs.Answers.{AreExportsIn, NamesSymbolIn};
 ghost use Rattle.ot_machine.specs.Meaning.{IsRun, IsExportIn};
-ghost use Rattle.ot_text.specs.Laws.{OneSequent, OneSequentInFront};
+ghost use Rattle.ot_print.specs.Laws.{TextsNameOne};
 ghost use Rattle.ot_verify.specs.Verifying.{AreProved};
 ghost use Rattle.ot_logic.specs.Naming.{names};
 ghost use Rattle.ot_logic.specs.Hol.{Accepted as AcceptedLists};
@@ -21,7 +21,7 @@ use crate::log::LogRefusal;
 use crate::sample::SAMPLE;
 use crate::status::Status;
 use crate::task::{Job, View};
-use crate::texts::{fault_line, line_at, line_of, log_text, structure_text, theory_text};
+use crate::texts::{fault_line, line_at, line_of, log_fault_text, structure_text, theory_text};
 use ot_args::Sections;
 use ot_kernel::{Kernel, ThmId};
 use ot_laws::growth_law;
@@ -80,7 +80,7 @@ pub fn log_verdict(
             log_summary(alloc, path, &verified)
         }
         Err(LogRefusal::At { line, fault }) => {
-            Ok(refused(line_at(alloc, path, line, log_text(fault))?))
+            Ok(refused(line_at(alloc, path, line, log_fault_text(fault))?))
         }
         Err(LogRefusal::NoFile) => missing(alloc, path),
         Err(LogRefusal::ReadFault) => failed(alloc, path),
@@ -89,19 +89,18 @@ pub fn log_verdict(
 }
 
 /// A law: each theorem of these exports is derivable from the session's assumptions under its definitions, and these
-/// are accepted; and a text is that of one sequent.
+/// are accepted; and a text names one thing.
 pub fn proved(session: &Session, exports: &[Export])
     requires session { IsRun session.now }
     requires exports { All (IsExportIn session.now) exports.now }
     ensures proved { IsProved (run_lists (ran_from session.now exports.now)) }
-    ensures one_text { OneSequent }
-    ensures one_in_front { OneSequentInFront }
+    ensures one_text { TextsNameOne }
 {
     session.kernel().sound();
     one_text();
 }
 
-/// The verdict on a run that stopped. Want of memory has a line of its own.
+/// The verdict on a run that stopped. Running out of memory has a line of its own.
 pub fn stopped(alloc: Global, kernel: &Kernel, stop: LinkFault) -> Result<Verdict, Memory>
     requires { NamesSymbolIn kernel.now stop }
     ensures { IfOk result (λ v. IsSomeAnd (end_at kernel.now stop) (IsStopVerdict v)) }
@@ -364,8 +363,7 @@ fn large_log(alloc: Global, path: &str) -> Result<Verdict, Memory>
 /// The verdict on a sample that was made: its text.
 pub fn made_verdict(text: Vec<u8>) -> Verdict
     ensures said { IsSaid result Status.Accepted text.items }
-    ensures one_text { OneSequent }
-    ensures one_in_front { OneSequentInFront }
+    ensures one_text { TextsNameOne }
     ensures none { AcceptedLists names [] [] }
 {
     growth_law();

@@ -1,13 +1,11 @@
 //! The sample: an article of a size that is made, run and rewritten.
-ghost use Rattle.std.specs.Prelude.{◌≡◌, ◌≤◌, ℕ, List, Option, IfOk};
+ghost use Rattle.std.specs.Prelude.{◌≤◌, ℕ, List, Option, IfOk};
 ghost use Rattle.ot_io.specs.Folder.{Folder};
 ghost use Rattle.ot_program.specs.Reply.{RunSample, MakeSample};
-ghost use Rattle.ot_program.specs.Answer.{Says};
 ghost use Rattle.ot_program.specs.Verdicts.{IsTaskVerdict};
 
 use crate::input::run_article;
 use crate::report::{Verdict, made_verdict, sample_verdict};
-use crate::status::Status;
 use ot_io::Bytes;
 use ot_logic::Memory;
 use ot_machine::Session;
@@ -21,7 +19,7 @@ pub const SAMPLE: &str = "sample";
 pub fn run_sample(alloc: Global, size: u64) -> Result<Verdict, Memory>
     requires { size ≤ 1000 }
     ensures { (folder : Option Folder) (input at : Option (List ℕ))
-        → IfOk result (IsTaskVerdict (RunSample size) folder input at ⊥ ⊥) }
+        → IfOk result (IsTaskVerdict (RunSample size) folder input at ⊥ (λ file. ⊥) ⊥) }
 {
     let mut made = Vec::new(alloc);
     sample_article(size, &mut made)?;
@@ -34,9 +32,8 @@ pub fn run_sample(alloc: Global, size: u64) -> Result<Verdict, Memory>
 /// Makes the sample article of a size, 1 to 1,000.
 pub fn make_sample(alloc: Global, size: u64) -> Result<Verdict, Memory>
     requires { size ≤ 1000 }
-    ensures says { (folder : Option Folder) (input at : Option (List ℕ))
-        → IfOk result (λ v. Says v.status (MakeSample size) folder input at v.text.items) }
-    ensures accepted { IfOk result (λ v. v.status ≡ Status.Accepted) }
+    ensures { (folder : Option Folder) (input at : Option (List ℕ))
+        → IfOk result (IsTaskVerdict (MakeSample size) folder input at ⊥ (λ file. ⊥) ⊥) }
 {
     let mut made = Vec::new(alloc);
     sample_article(size, &mut made)?;

@@ -7,7 +7,7 @@ ghost use Rattle.ot_machine.specs.Faults.{fault_of};
 ghost use Rattle.ot_machine.specs.Answers.{IsSymbolIn};
 ghost use Rattle.ot_verify.specs.Taking.{fault_of as log_fault_of};
 ghost use Rattle.ot_program.specs.Texts.{kind_text, symbol_text, fault_text, theory_text, structure_text};
-ghost use Rattle.ot_program.specs.Texts.{log_text, readable_text, column_line, line_of, line_at, fault_line};
+ghost use Rattle.ot_program.specs.Texts.{log_fault_text, reading_fault_text, column_line, line_of, line_at, fault_line};
 ghost use Rattle.ot_program.specs.Wording.{kind_word, line_start};
 
 use ot_blocks::StructureFault;
@@ -75,8 +75,8 @@ pub fn structure_text(fault: StructureFault) -> &'static str
 }
 
 /// The text of a fault in a proof log.
-pub fn log_text(fault: LogFault) -> &'static str
-    ensures { result.now ≡ log_text (log_fault_of fault) }
+pub fn log_fault_text(fault: LogFault) -> &'static str
+    ensures { result.now ≡ log_fault_text (log_fault_of fault) }
 {
     match fault {
         LogFault::LineTooLong => "line longer than 65535 bytes",
@@ -92,8 +92,8 @@ pub fn log_text(fault: LogFault) -> &'static str
 }
 
 /// The text of a fault in a line of readable text.
-fn readable_text(fault: TextFault) -> &'static str
-    ensures { result.now ≡ readable_text fault }
+fn reading_fault_text(fault: TextFault) -> &'static str
+    ensures { result.now ≡ reading_fault_text fault }
 {
     match fault {
         TextFault::Syntax => "cannot be read",
@@ -115,7 +115,7 @@ pub fn column_line(
 ) -> Result<Vec<u8>, Memory>
     ensures { IfOk result (λ line. line.items ≡ column_line path.now number column fault) }
 {
-    let text = readable_text(fault);
+    let text = reading_fault_text(fault);
     let line = format!(in alloc; "opentheory: {path}:{number}:{column}: {text}\n")?;
     Ok(line.into_bytes())
 }
@@ -164,7 +164,7 @@ fn kind_text(kind: Kind) -> &'static str
     }
 }
 
-/// Appends the text of a fault. Want of memory is none of an article's.
+/// Appends the text of a fault. Running out of memory is no fault of an article.
 fn add_fault(alloc: Global, kernel: &Kernel, fault: Fault, out: &mut Vec<u8>) -> Result<(), Memory>
     requires symbol { IsSymbolIn kernel.now fault }
     requires apart { fault ≢ Fault.Memory }

@@ -1,10 +1,10 @@
-use Rattle.std.proofs.Common.{subst}
+use Rattle.std.proofs.Common.{ℕ, List, subst}
 use Rattle.std.specs.Prelude.{Result, IfSome, IsSomeAnd}
 use Rattle.ot_io.specs.Causes.{CountRose}
 use Rattle.ot_link.specs.declared.fault.LinkFault.{LinkFault}
-use Rattle.ot_program.specs.Reply.{ShowReadable, stop_status}
-use Rattle.ot_program.specs.Answer.{FailedAt, LastInput}
-use Rattle.ot_program.specs.Verdicts.{end_at, noted_end_of, IsEnd, IsPlace, HasCause, HasEndedInput, IsStopVerdict}
+use Rattle.ot_program.specs.Reply.{ShowReadable}
+use Rattle.ot_program.specs.Answer.{FileFailed, LastInput}
+use Rattle.ot_program.specs.Verdicts.{end_at, noted_end_of, IsEnd, HasTaskCause, HasEndedInput, IsStopVerdict}
 use Rattle.ot_program.specs.declared.noted.NotedRun.{NotedRun}
 use Rattle.ot_program.proofs.FindingLemmas.{ends_by, input_ended, input_last}
 use Rattle.ot_program.proofs.finding.input_run.Goals as goal
@@ -24,23 +24,21 @@ returns-in-Err-clause-ended g c =
     let folder = g.F.Source.folder c.args.files.now in
     let left = g.S.Source.left c.args.input.now in
     let at = g.F.Source.at c.run_noted.new.files in
-    let P : Type 0 =
-    FailedAt path (g.S.Source.faults c.args.input.now) (g.S.Source.faults c.run_noted.new.input)
-    (g.F.Source.faults c.args.files.now) (g.F.Source.faults c.run_noted.new.files) in
+    let I : Type 0 = CountRose (g.S.Source.faults c.args.input.now) (g.S.Source.faults c.run_noted.new.input) in
+    let F : List ℕ → Type 0 =
+    FileFailed at (g.F.Source.faults c.args.files.now) (g.F.Source.faults c.run_noted.new.files) in
     let Q : Type 0 = CountRose (g.F.Source.misses c.args.files.now) (g.F.Source.misses c.run_noted.new.files) in
     let s = c.run_noted.new.session in
     let o = end_at s.kernel c.in-Err.stop in
     let ended = subst (λ (r : Result NotedRun LinkFault). IfSome
     (noted_end_of s r) (IsEnd (ShowReadable packages path) folder left))
     c.in-Err.is c.run_noted.ensures.end in
-    let placed = subst (λ (r : Result NotedRun LinkFault). IfSome
-    (noted_end_of s r) (IsPlace (ShowReadable packages path) folder at))
-    c.in-Err.is c.run_noted.ensures.place in
-    let caused = subst (λ (r : Result NotedRun LinkFault). IfSome (noted_end_of s r) (HasCause stop_status P Q))
+    let caused = subst (λ (r : Result NotedRun LinkFault). IfSome
+    (noted_end_of s r) (HasTaskCause (ShowReadable packages path) folder left I F Q))
     c.in-Err.is c.run_noted.ensures.cause in
     rw c.ending_of.ensures (ends_by (λ v. IsSomeAnd o (IsStopVerdict v))
-    (HasEndedInput packages path folder left at P Q) c.stopped.result
-    (input_ended packages path folder left at P Q o ended placed caused) (rw c.kernel.ensures at c.stopped.ensures))
+    (HasEndedInput packages path folder left I F Q) c.stopped.result
+    (input_ended packages path folder left I F Q o ended caused) (rw c.kernel.ensures at c.stopped.ensures))
 
 pub returns-in-Err-clause-last : goal.returns-in-Err-clause-last
 returns-in-Err-clause-last g c =

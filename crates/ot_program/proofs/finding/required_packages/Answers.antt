@@ -2,6 +2,7 @@ use Rattle.std.proofs.Common.{◌≡◌, ◌∙◌, ap, sym, true}
 use Rattle.ot_io.specs.Causes.{CountRose}
 use Rattle.ot_args.specs.Grammar.{is_theory}
 use Rattle.ot_repo.specs.Answers.{names_of}
+use Rattle.ot_program.specs.Answer.{FileFailed}
 use Rattle.ot_program.specs.Verdicts.{HasEndedWalk, IsWalkVerdict}
 use Rattle.ot_program.proofs.InputLemmas.{limits_are}
 use Rattle.ot_program.proofs.FindingLemmas.{ends_by, walk_ended, are_required}
@@ -29,7 +30,8 @@ returns-in-Err-clause-ended g c =
     let gives = rw limit at c.in-Err.ensures.required in
     let fails = rw limit at c.in-Err.ensures.failure in
     rw c.ending_of.ensures
-    (ends_by (IsWalkVerdict c.in-Err.fault) (HasEndedWalk packages path folder at (CountRose f0 f1) (CountRose m0 m1))
+    (ends_by (IsWalkVerdict c.in-Err.fault)
+    (HasEndedWalk packages path folder (FileFailed at f0 f1) (CountRose m0 m1))
     c.walk_verdict.result
     (walk_ended packages path folder at m0 m1 f0 f1 theory c.in-Err.fault gives c.in-Err.ensures.cause fails)
     c.walk_verdict.ensures)

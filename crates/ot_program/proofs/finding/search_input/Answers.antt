@@ -1,8 +1,8 @@
-use Rattle.std.proofs.Common.{map}
+use Rattle.std.proofs.Common.{ℕ, List, map}
 use Rattle.std.specs.Prelude.{string_bytes}
 use Rattle.std.proofs.lemmas.Result.{err_from_is_err_and}
 use Rattle.ot_io.specs.Causes.{CountRose}
-use Rattle.ot_program.specs.Answer.{FailedAt, LastInput}
+use Rattle.ot_program.specs.Answer.{FileFailed, LastInput}
 use Rattle.ot_program.specs.Verdicts.{HasEndedInput, HasEndedSearch}
 use Rattle.ot_program.proofs.NotedLemmas.{keeps}
 use Rattle.ot_program.proofs.FindingLemmas.{if_ended, search_later, err_all, ok_all}
@@ -19,15 +19,15 @@ returns-in_err-noted-clause-ended g c =
     let folder = g.F.Source.folder c.args.files.now in
     let left = g.S.Source.left c.args.input.now in
     let at = g.F.Source.at c.input_run.new.files in
-    let P : Type 0 =
-    FailedAt path (g.S.Source.faults c.args.input.now) (g.S.Source.faults c.input_run.new.input)
-    (g.F.Source.faults c.args.files.now) (g.F.Source.faults c.input_run.new.files) in
+    let I : Type 0 = CountRose (g.S.Source.faults c.args.input.now) (g.S.Source.faults c.input_run.new.input) in
+    let F : List ℕ → Type 0 =
+    FileFailed at (g.F.Source.faults c.args.files.now) (g.F.Source.faults c.input_run.new.files) in
     let Q : Type 0 = CountRose (g.F.Source.misses c.args.files.now) (g.F.Source.misses c.input_run.new.files) in
     let p = err_from_is_err_and c.from_residual.result c.from_residual.ensures.1 in
-    rw (p.1, p.2) (if_ended (HasEndedInput packages path folder left at P Q)
-    (HasEndedSearch packages pattern path folder left at P Q) c.in_err-noted.field-0.0
+    rw (p.1, p.2) (if_ended (HasEndedInput packages path folder left I F Q)
+    (HasEndedSearch packages pattern path folder left I F Q) c.in_err-noted.field-0.0
     (input_ends packages pattern path folder left (map string_bytes c.args.fulls.now)
-    c.requires.required at P Q P Q (λ h. h) (λ h. h))
+    c.requires.required I F Q)
     c.in_err-noted.ensures.ended)
 
 pub returns-in_err-noted-clause-last : goal.returns-in_err-noted-clause-last
@@ -55,7 +55,7 @@ returns-clause-ended g c =
     let m2 = g.F.Source.misses c.search_run.new.files in
     let next = c.in_ok-noted.ensures.files in
     let ended = rw next.keeps.same_folder at c.search_run.ensures.ended in
-    search_later packages pattern path folder left at i j f0 f1 f2 m0 m1 m2 c.search_run.result
+    search_later packages pattern path folder left (CountRose i j) at f0 f1 f2 m0 m1 m2 c.search_run.result
     next.keeps.later next.keeps.later_misses
     (ended left i j c.requires.required c.in_ok-noted.ensures.ran)
 

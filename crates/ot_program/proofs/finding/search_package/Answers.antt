@@ -1,6 +1,5 @@
-use Rattle.std.proofs.Common.{◌≡◌, ◌∙◌, ◌++◌, List, ap, subst}
+use Rattle.std.proofs.Common.{◌≡◌, ◌∙◌, ◌++◌, ℕ, List, ap, subst}
 use Rattle.std.specs.Global.{Global}
-use Rattle.std.specs.Option.{option_map}
 use Rattle.std.specs.Prelude.{Result, Vec, IfSome, IsSomeAnd}
 use Rattle.ot_logic.specs.PlainTrees.{term_of_tree}
 use Rattle.ot_io.specs.Causes.{CountRose}
@@ -8,18 +7,19 @@ use Rattle.ot_blocks.specs.Paths.{package_path}
 use Rattle.ot_find.specs.Matches.{Found, matches_in}
 use Rattle.ot_link.specs.declared.fault.LinkFault.{LinkFault}
 use Rattle.ot_machine.specs.declared.machine.Export.{Export}
-use Rattle.ot_program.specs.Reply.{theory_run, exports_of, stop_status}
-use Rattle.ot_program.specs.Verdicts.{end_at, end_of, ran_from, IsAnswer, IsNeeded, HasCause}
+use Rattle.ot_program.specs.Reply.{theory_run, exports_of}
+use Rattle.ot_program.specs.Answer.{FileFailed}
+use Rattle.ot_program.specs.Verdicts.{end_at, end_of, ran_from, IsAnswer, HasTheoryCause}
 use Rattle.ot_program.specs.Verdicts.{HasMatches, HasEndedRun, IsSearched, IsStopVerdict}
 use Rattle.ot_program.proofs.FindingLemmas.{ends_by, err_ended, on_ok_more, path_answer, run_ended}
 use Rattle.ot_program.proofs.finding.search_package.Goals as goal
 
 pub returns-in-Ok-clause-ended : goal.returns-in-Ok-clause-ended
 returns-in-Ok-clause-ended g c =
-    let P : Type 0 = CountRose (g.F.Source.faults c.args.files.now) (g.F.Source.faults c.run_theory.new.files) in
+    let F : List ℕ → Type 0 = FileFailed (g.F.Source.at c.run_theory.new.files)
+    (g.F.Source.faults c.args.files.now) (g.F.Source.faults c.run_theory.new.files) in
     let Q : Type 0 = CountRose (g.F.Source.misses c.args.files.now) (g.F.Source.misses c.run_theory.new.files) in
-    err_ended (λ v. ⊥) (HasEndedRun c.args.packages.now c.args.full.now
-    (g.F.Source.folder c.args.files.now) (g.F.Source.at c.run_theory.new.files) P Q)
+    err_ended (λ v. ⊥) (HasEndedRun c.args.packages.now c.args.full.now (g.F.Source.folder c.args.files.now) F Q)
     c.search_exports.result
     (λ v none. absurd none) c.search_exports.ensures.ended
 
@@ -51,8 +51,8 @@ returns-clause-ended g c =
     let full = c.args.full.now in
     let path = c.deref.result.now in
     let folder = g.F.Source.folder c.args.files.now in
-    let at = g.F.Source.at c.run_theory.new.files in
-    let P : Type 0 = CountRose (g.F.Source.faults c.args.files.now) (g.F.Source.faults c.run_theory.new.files) in
+    let F : List ℕ → Type 0 = FileFailed (g.F.Source.at c.run_theory.new.files)
+    (g.F.Source.faults c.args.files.now) (g.F.Source.faults c.run_theory.new.files) in
     let Q : Type 0 = CountRose (g.F.Source.misses c.args.files.now) (g.F.Source.misses c.run_theory.new.files) in
     let s = c.run_theory.new.session in
     let o = end_at s.kernel c.in-Err.stop in
@@ -61,12 +61,10 @@ returns-clause-ended g c =
     let ended = subst (λ (r : Result (Vec Export Global) LinkFault). IfSome folder
     (λ files. IfSome (end_of s r) (IsAnswer (theory_run packages path files).answer)))
     c.in-Err.is c.run_theory.ensures.end in
-    let needed = subst (λ (r : Result (Vec Export Global) LinkFault). IfSome (end_of s r)
-    (IsNeeded (option_map (λ files. (theory_run packages path files).paths) folder) at))
-    c.in-Err.is c.run_theory.ensures.needed in
-    let caused = subst (λ (r : Result (Vec Export Global) LinkFault). IfSome (end_of s r) (HasCause stop_status P Q))
+    let caused = subst (λ (r : Result (Vec Export Global) LinkFault). IfSome (end_of s r)
+    (HasTheoryCause packages path folder F Q))
     c.in-Err.is c.run_theory.ensures.cause in
     rw c.ending_of.ensures (ends_by (λ v. IsSomeAnd o (IsStopVerdict v))
-    (HasEndedRun packages full folder at P Q) c.stopped.result
-    (run_ended packages folder path full at P Q o same ended needed caused)
+    (HasEndedRun packages full folder F Q) c.stopped.result
+    (run_ended packages folder path full F Q o same ended caused)
     (rw c.kernel.ensures at c.stopped.ensures))

@@ -4,8 +4,9 @@ use Rattle.std.proofs.lemmas.Result.{err_from_is_err_and}
 use Rattle.ot_logic.specs.PlainTrees.{term_of_tree}
 use Rattle.ot_logic.specs.Lists.{IsMember}
 use Rattle.ot_io.specs.Causes.{CountRose}
+use Rattle.ot_program.specs.Answer.{FileFailed}
 use Rattle.ot_program.specs.Verdicts.{HasEndedRun, HasEndedRuns, AreSearched}
-use Rattle.ot_program.proofs.NotedLemmas.{rose_later, keeps}
+use Rattle.ot_program.proofs.NotedLemmas.{rose_later, file_later, keeps}
 use Rattle.ot_program.proofs.FindingLemmas.{if_ended, none_searched, one_searched, runs_ended}
 use Rattle.ot_program.proofs.FindingLemmas.{texts_cut, texts_more, middle_member, no_texts}
 use Rattle.ot_program.proofs.finding.search_packages.Goals as goal
@@ -52,15 +53,15 @@ returns-in_err-search_package-clause-ended g c =
     let ended =
     rw (c.deref.ensures, c.each.invariant.files.keeps.same_folder) at c.in_err-search_package.ensures.ended in
     let p = err_from_is_err_and c.from_residual.result c.from_residual.ensures.1 in
-    rw (p.1, p.2) (if_ended (HasEndedRun packages full folder at (CountRose f1 f2) (CountRose m1 m2))
-    (HasEndedRuns packages (map string_bytes xs) folder at (CountRose f0 f2) (CountRose m0 m2))
+    rw (p.1, p.2) (if_ended (HasEndedRun packages full folder (FileFailed at f1 f2) (CountRose m1 m2))
+    (HasEndedRuns packages (map string_bytes xs) folder (FileFailed at f0 f2) (CountRose m0 m2))
     c.in_err-search_package.field-0.0
-    (λ v has. subst
-    (λ (fulls : List (List ℕ)). HasEndedRuns packages fulls folder at (CountRose f0 f2) (CountRose m0 m2) v)
+    (λ v has.
+    subst (λ (fulls : List (List ℕ)). HasEndedRuns packages fulls folder (FileFailed at f0 f2) (CountRose m0 m2) v)
     (sym cut)
     (runs_ended packages folder front back full (term_of_tree c.args.pattern.now)
-    c.args.search.now c.each.search at (CountRose f1 f2) (CountRose m1 m2) (CountRose f0 f2) (CountRose m0 m2)
-    (rose_later f0 f1 f2 c.each.invariant.files.keeps.later)
+    c.args.search.now c.each.search (FileFailed at f1 f2) (FileFailed at f0 f2) (CountRose m1 m2) (CountRose m0 m2)
+    (file_later at f0 f1 f2 c.each.invariant.files.keeps.later)
     (rose_later m0 m1 m2 c.each.invariant.files.keeps.later_misses) c.each.invariant.searched v has))
     ended)
 

@@ -1,6 +1,7 @@
+use Rattle.std.proofs.Common.{ℕ, List}
 use Rattle.std.proofs.lemmas.Result.{err_from_is_err_and}
 use Rattle.ot_io.specs.Causes.{CountRose}
-use Rattle.ot_program.specs.Answer.{FailedAt, LastInput}
+use Rattle.ot_program.specs.Answer.{FileFailed, LastInput}
 use Rattle.ot_program.specs.Verdicts.{HasEndedWalk, HasEndedSearch}
 use Rattle.ot_program.proofs.NotedLemmas.{leaves, keeps}
 use Rattle.ot_program.proofs.FindingLemmas.{if_ended, search_later, walk_ends, walk_last}
@@ -22,10 +23,11 @@ returns-in_err-fulls-clause-ended g c =
     let m0 = g.F.Source.misses c.args.files.now in
     let m1 = g.F.Source.misses c.required_packages.new.files in
     let p = err_from_is_err_and c.from_residual.result c.from_residual.ensures.1 in
-    rw (p.1, p.2) (if_ended (HasEndedWalk packages path folder at (CountRose f0 f1) (CountRose m0 m1))
-    (HasEndedSearch packages pattern path folder left at (FailedAt path i i f0 f1) (CountRose m0 m1))
+    rw (p.1, p.2) (if_ended (HasEndedWalk packages path folder (FileFailed at f0 f1) (CountRose m0 m1))
+    (HasEndedSearch packages pattern path folder left (CountRose i i) (FileFailed at f0 f1) (CountRose m0 m1))
     c.in_err-fulls.field-0.0
-    (walk_ends packages pattern path folder left at m0 m1 f0 f1 i i) c.in_err-fulls.ensures.ended)
+    (walk_ends packages pattern path folder left (CountRose i i) (FileFailed at f0 f1) (CountRose m0 m1))
+    c.in_err-fulls.ensures.ended)
 
 pub returns-in_err-fulls-clause-last : goal.returns-in_err-fulls-clause-last
 returns-in_err-fulls-clause-last g c =
@@ -33,11 +35,13 @@ returns-in_err-fulls-clause-last g c =
     let path = c.args.query.path.now in
     let folder = g.F.Source.folder c.args.files.now in
     let at = g.F.Source.at c.required_packages.new.files in
-    let P = CountRose (g.F.Source.faults c.args.files.now) (g.F.Source.faults c.required_packages.new.files) in
-    let Q = CountRose (g.F.Source.misses c.args.files.now) (g.F.Source.misses c.required_packages.new.files) in
+    let F : List ℕ → Type 0 =
+    FileFailed at (g.F.Source.faults c.args.files.now) (g.F.Source.faults c.required_packages.new.files) in
+    let Q : Type 0 =
+    CountRose (g.F.Source.misses c.args.files.now) (g.F.Source.misses c.required_packages.new.files) in
     let p = err_from_is_err_and c.from_residual.result c.from_residual.ensures.1 in
-    rw (p.1, p.2) (if_ended (HasEndedWalk packages path folder at P Q) (λ v. LastInput path folder at)
-    c.in_err-fulls.field-0.0 (walk_last packages path folder at P Q) c.in_err-fulls.ensures.ended)
+    rw (p.1, p.2) (if_ended (HasEndedWalk packages path folder F Q) (λ v. LastInput path folder at)
+    c.in_err-fulls.field-0.0 (walk_last packages path folder at F Q) c.in_err-fulls.ensures.ended)
 
 -- ---- and behind it
 
@@ -65,7 +69,7 @@ returns-clause-ended g c =
     let m1 = g.F.Source.misses c.required_packages.new.files in
     let m2 = g.F.Source.misses c.search_input.new.files in
     let first = c.in_ok-fulls.ensures.files in
-    search_later packages pattern path folder left at i j f0 f1 f2 m0 m1 m2 c.search_input.result
+    search_later packages pattern path folder left (CountRose i j) at f0 f1 f2 m0 m1 m2 c.search_input.result
     first.keeps.later first.keeps.later_misses
     (rw first.keeps.same_folder at c.search_input.ensures.ended)
 

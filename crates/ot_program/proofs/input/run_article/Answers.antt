@@ -1,6 +1,6 @@
 use Rattle.std.proofs.Common.{ap}
 use Rattle.std.specs.Prelude.{string_bytes}
-use Rattle.ot_program.proofs.InputLemmas.{alone_answer, alone_own, alone_cause, lawful_end}
+use Rattle.ot_program.proofs.InputLemmas.{alone_answer, alone_cause, lawful_end}
 use Rattle.ot_program.proofs.input.run_article.Goals as goal
 
 pub returns-clause-end : goal.returns-clause-end
@@ -8,10 +8,6 @@ returns-clause-end g c =
     alone_answer c.run_alone.new.session c.run_alone.result (string_bytes c.args.path)
     (g.S.Source.left c.args.source.now) c.standard-limits.result.article_bytes
     (ap (λ l. l.article_bytes) c.standard-limits.ensures) c.run_alone.ensures.ends
-
-pub returns-clause-own : goal.returns-clause-own
-returns-clause-own g c = alone_own c.run_alone.new.session c.run_alone.result (string_bytes c.args.path)
-    c.run_alone.ensures.own
 
 pub returns-clause-cause : goal.returns-clause-cause
 returns-clause-cause g c =

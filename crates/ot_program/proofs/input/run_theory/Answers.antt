@@ -1,5 +1,5 @@
 use Rattle.ot_program.proofs.InputLemmas.{limits_are, theory_comes, theory_answer}
-use Rattle.ot_program.proofs.InputLemmas.{theory_needed, theory_cause, lawful_end}
+use Rattle.ot_program.proofs.InputLemmas.{theory_cause, lawful_end}
 use Rattle.ot_program.proofs.input.run_theory.Goals as goal
 
 pub returns-clause-end : goal.returns-clause-end
@@ -10,21 +10,15 @@ returns-clause-end g c =
     (g.F.Source.folder c.args.files.now)
     c.standard-limits.result (limits_are c.standard-limits.result c.standard-limits.ensures) c.link.ensures.links)
 
-pub returns-clause-needed : goal.returns-clause-needed
-returns-clause-needed g c =
-    theory_needed c.link.new.session c.link.result c.args.packages.now c.args.path.now
+pub returns-clause-cause : goal.returns-clause-cause
+returns-clause-cause g c =
+    theory_cause c.link.new.session c.link.result c.args.packages.now c.args.path.now
     (g.F.Source.folder c.args.files.now) (g.F.Source.at c.link.new.files) (g.F.Source.misses c.args.files.now)
     (g.F.Source.misses c.link.new.files) (g.F.Source.faults c.args.files.now) (g.F.Source.faults c.link.new.files)
     (theory_comes c.link.new.session c.link.result c.args.packages.now c.args.path.now
     (g.F.Source.folder c.args.files.now)
     c.standard-limits.result (limits_are c.standard-limits.result c.standard-limits.ensures) c.link.ensures.links)
     c.link.ensures.cause
-
-pub returns-clause-cause : goal.returns-clause-cause
-returns-clause-cause g c =
-    theory_cause c.link.new.session c.link.result (g.F.Source.at c.link.new.files)
-    (g.F.Source.misses c.args.files.now) (g.F.Source.misses c.link.new.files)
-    (g.F.Source.faults c.args.files.now) (g.F.Source.faults c.link.new.files) c.link.ensures.cause
 
 pub returns-clause-lawful : goal.returns-clause-lawful
 returns-clause-lawful g c =

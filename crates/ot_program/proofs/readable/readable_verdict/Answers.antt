@@ -7,7 +7,7 @@ pub returns-in-Ok : goal.returns-in-Ok
 returns-in-Ok c = λ packages.
     rw c.in-Ok.is (end_verdict packages c.args.path.now (noted_of c.args.session.now c.in-Ok.noted)
     c.summary.result c.summary.ensures.ends c.summary.ensures.read_back
-    (rw c.deref.ensures.value at c.proved.ensures.proved) c.proved.ensures.one_text c.proved.ensures.one_in_front)
+    (rw c.deref.ensures.value at c.proved.ensures.proved) c.proved.ensures.one_text)
 
 pub returns-in-Err : goal.returns-in-Err
 returns-in-Err c = λ packages.

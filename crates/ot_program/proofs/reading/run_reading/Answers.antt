@@ -1,16 +1,16 @@
-use Rattle.std.proofs.Common.{subst, inl, inr}
+use Rattle.std.proofs.Common.{ℕ, List, subst}
 use Rattle.std.specs.Option.{option_and_then}
 use Rattle.std.specs.Prelude.{Result, IfSome}
 use Rattle.ot_io.specs.Causes.{CountRose}
 use Rattle.ot_link.specs.declared.fault.LinkFault.{LinkFault}
-use Rattle.ot_program.specs.Reply.{ShowReadable, ReadLines, noted_at, stop_status}
-use Rattle.ot_program.specs.Answer.{FailedAt, FailedIn, LastInput}
-use Rattle.ot_program.specs.Verdicts.{end_at, noted_of, noted_end_of, stop_end, read_end_of, IsEnd, IsPlace, HasCause}
+use Rattle.ot_program.specs.Reply.{ShowReadable, ReadLines, noted_at}
+use Rattle.ot_program.specs.Answer.{FileFailed, LastInput}
+use Rattle.ot_program.specs.Verdicts.{end_at, noted_of, noted_end_of, stop_end, read_end_of, IsEnd, HasTaskCause}
 use Rattle.ot_program.specs.declared.noted.NotedRun.{NotedRun}
 use Rattle.ot_program.proofs.VerdictLemmas.{task_verdict}
-use Rattle.ot_program.proofs.NotedLemmas.{rose_later, keeps}
-use Rattle.ot_program.proofs.ReadingLemmas.{behind, stop_behind, text_place, input_place, text_cause}
-use Rattle.ot_program.proofs.ReadingLemmas.{input_cause, text_last, input_last, input_verdict}
+use Rattle.ot_program.proofs.NotedLemmas.{rose_later, file_later, keeps}
+use Rattle.ot_program.proofs.ReadingLemmas.{behind, stop_behind, text_cause, input_cause}
+use Rattle.ot_program.proofs.ReadingLemmas.{text_last, input_last, input_verdict}
 use Rattle.ot_program.proofs.reading.run_reading.Goals as goal
 
 -- behind a run that ended
@@ -29,8 +29,7 @@ returns-in-Ok-clause-verdict g c =
     let m0 = g.F.Source.misses c.args.files.now in
     let m1 = g.F.Source.misses c.run_noted.new.files in
     let m2 = g.F.Source.misses c.read_text-read.new.files in
-    let P : Type 0 = FailedIn t (g.S.Source.faults c.args.input.now) (g.S.Source.faults c.run_noted.new.input) f0
-    f2 in
+    let I : Type 0 = CountRose (g.S.Source.faults c.args.input.now) (g.S.Source.faults c.run_noted.new.input) in
     let n = noted_of c.run_noted.new.session c.in-Ok.noted in
     let o = read_end_of text n c.read_text-read.result in
     let kept = c.run_noted.ensures.files in
@@ -39,11 +38,10 @@ returns-in-Ok-clause-verdict g c =
     c.in-Ok.is c.run_noted.ensures.end in
     let read = rw kept.keeps.same_folder at c.read_text-read.ensures.end in
     let last = rw kept.keeps.same_folder at c.read_text-read.ensures.at in
-    task_verdict P (CountRose m0 m2) t folder left at o c.reading_verdict.result (c.reading_verdict.ensures packages)
-    (behind text folder (noted_at packages path folder left) n o ran read)
-    (text_place packages path text folder at n c.read_text-read.result last)
-    (text_cause (CountRose f1 f2) (CountRose m1 m2) P (CountRose m0 m2) o
-    (λ r. inr (rose_later f0 f1 f2 kept.keeps.later r))
+    task_verdict I (FileFailed at f0 f2) (CountRose m0 m2) t folder left at o c.reading_verdict.result
+    (c.reading_verdict.ensures packages) (behind text folder (noted_at packages path folder left) n o ran read)
+    (text_cause packages path text folder left n I (FileFailed at f0 f2) (FileFailed at f1 f2 text) (CountRose m1 m2)
+    (CountRose m0 m2) c.read_text-read.result ran (file_later at f0 f1 f2 kept.keeps.later text)
     (rose_later m0 m1 m2 kept.keeps.later_misses) c.read_text-read.ensures.cause)
     (text_last path text folder at o last)
 
@@ -61,25 +59,22 @@ returns-clause-verdict g c =
     let j = g.S.Source.faults c.run_noted.new.input in
     let f = g.F.Source.faults c.args.files.now in
     let h = g.F.Source.faults c.run_noted.new.files in
-    let P : Type 0 = FailedAt path i j f h in
+    let F : List ℕ → Type 0 = FileFailed at f h in
     let Q : Type 0 = CountRose (g.F.Source.misses c.args.files.now) (g.F.Source.misses c.run_noted.new.files) in
     let s = c.run_noted.new.session in
     let o = end_at s.kernel c.in-Err.stop in
     let ended = subst (λ (r : Result NotedRun LinkFault). IfSome
     (noted_end_of s r) (IsEnd (ShowReadable packages path) folder left))
     c.in-Err.is c.run_noted.ensures.end in
-    let placed = subst (λ (r : Result NotedRun LinkFault). IfSome
-    (noted_end_of s r) (IsPlace (ShowReadable packages path) folder at))
-    c.in-Err.is c.run_noted.ensures.place in
-    let caused = subst (λ (r : Result NotedRun LinkFault). IfSome (noted_end_of s r) (HasCause stop_status P Q))
+    let caused = subst (λ (r : Result NotedRun LinkFault). IfSome
+    (noted_end_of s r) (HasTaskCause (ShowReadable packages path) folder left (CountRose i j) F Q))
     c.in-Err.is c.run_noted.ensures.cause in
     let lasted = subst (λ (r : Result NotedRun LinkFault). IfSome (noted_end_of s r) (λ _. LastInput path folder at))
     c.in-Err.is c.run_noted.ensures.at in
-    task_verdict (FailedIn t i j f h) Q t folder left at (option_and_then stop_end o) c.stopped.result
+    task_verdict (CountRose i j) F Q t folder left at (option_and_then stop_end o) c.stopped.result
     (input_verdict packages path text c.stopped.result o (rw c.kernel.ensures at c.stopped.ensures))
     (stop_behind text folder (noted_at packages path folder left) o ended)
-    (input_place packages path text folder at o placed)
-    (input_cause P Q (FailedIn t i j f h) o inl caused) (input_last path text folder at o lasted)
+    (input_cause packages path text folder left (CountRose i j) F Q o caused) (input_last path text folder at o lasted)
 
 -- the files, over both
 pub returns-in-Ok-clause-files : goal.returns-in-Ok-clause-files

@@ -8,4 +8,4 @@ returns-in-Ok c =
     let first = c.deref.ensures.value in
     rw c.in-Ok.is (sample_ended c.args.size (ran_from c.args.session.now c.in-Ok.exports.items)
     c.sampled.result (rw same at c.sampled.ensures.ends) (rw same at c.sampled.ensures.rewritten)
-    (rw first at c.proved.ensures.proved) c.proved.ensures.one_text c.proved.ensures.one_in_front)
+    (rw first at c.proved.ensures.proved) c.proved.ensures.one_text)

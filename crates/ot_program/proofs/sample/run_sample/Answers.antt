@@ -1,10 +1,11 @@
 use Rattle.std.proofs.Common.{◌≡◌, ◌∙◌, ◌++◌, List, ℕ, ap, subst}
 use Rattle.std.specs.Prelude.{IfSome}
+use Rattle.ot_io.specs.Causes.{CountRose}
 use Rattle.ot_link.specs.Blocks.{article_end}
 use Rattle.ot_sample.specs.Sample.{sample}
 use Rattle.ot_program.specs.Reply.{RunSample, sample_path, outcome}
-use Rattle.ot_program.specs.Verdicts.{end_of, IsAnswer, IsOwnEnd}
-use Rattle.ot_program.proofs.SampleLemmas.{sample_end, sample_place, sample_cause, unasked}
+use Rattle.ot_program.specs.Verdicts.{end_of, IsAnswer, HasOwnCause}
+use Rattle.ot_program.proofs.SampleLemmas.{sample_end, sample_cause, unasked}
 use Rattle.ot_program.proofs.VerdictLemmas.{task_verdict}
 use Rattle.ot_program.proofs.sample.run_sample.Goals as goal
 
@@ -23,10 +24,9 @@ returns c = λ folder input at.
     ∙ ap (λ xs. xs ++ sample c.args.size) c.new-made.ensures.items in
     let ended = subst (λ (path : List ℕ). IfSome o (IsAnswer (article_end path (outcome c.new-2.result.left.now))))
     c.in_ok-path.ensures.ok c.run_article-ran.ensures.end in
-    let told = subst (λ (bytes : List ℕ). IfSome o (IsAnswer (article_end sample_path (outcome bytes)))) made ended in
-    let own = subst (λ (path : List ℕ). IfSome o (IsOwnEnd path)) c.in_ok-path.ensures.ok
-    c.run_article-ran.ensures.own in
-    let cause = c.run_article-ran.ensures.cause in
-    task_verdict ⊥ ⊥ (RunSample c.args.size) folder input at o c.sample_verdict.result c.sample_verdict.ensures
-    (sample_end c.args.size folder input o told) (sample_place c.args.size folder at o own cause)
-    (sample_cause o cause) (unasked o)
+    let known = subst (λ (bytes : List ℕ). IfSome o (IsAnswer (article_end sample_path (outcome bytes)))) made ended in
+    let cause = subst (λ (path : List ℕ). IfSome o (HasOwnCause path (CountRose 0 0) ⊥)) c.in_ok-path.ensures.ok
+    c.run_article-ran.ensures.cause in
+    task_verdict ⊥ (λ file. ⊥) ⊥ (RunSample c.args.size) folder input at o c.sample_verdict.result
+    c.sample_verdict.ensures (sample_end c.args.size folder input o known) (sample_cause c.args.size folder input o cause)
+    (unasked o)
