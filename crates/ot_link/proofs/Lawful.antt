@@ -13,7 +13,7 @@ use Rattle.ot_kernel.specs.Alike.{AreFirstPlaces}
 use Rattle.ot_theory.specs.Theory.{TagText}
 use Rattle.ot_machine.specs.States as states
 use Rattle.ot_machine.specs.States.{RunState, Context, fresh_article, fresh_run, no_context}
-use Rattle.ot_machine.specs.Lawful.{IsLarger, IsLawfulExport, IsLawfulRun, IsLawful, GivenFits}
+use Rattle.ot_machine.specs.Lawful.{Basis, IsLarger, IsLawfulExport, IsLawfulRun, IsLawful, GivenFits}
 use Rattle.ot_machine.specs.Lawful.{Keeps, AreLawfulGivens, StatesSequent, AreApart, IsNaming}
 use Rattle.ot_machine.specs.Writable.{IsWritable}
 use Rattle.ot_machine.specs.LawfulLaws.{CanBeNamed, FreshIsLawful, LinesAreLawful, LawfulStays}
@@ -181,21 +181,21 @@ once-lawful s once es e h =
           (once-apart [] (map (export_of s) es) (λ i j x y p q same. absurd (cc)));
     }
 
-module _ (r : RunState) where
-  given-lawful : (es : List states.Export) → All (IsLawfulExport (basis_of r)) es
-      → AreLawfulGivens IsWritable r (map given_by es)
-  given-lawful [] h = All-nil (GivenFits (basis_of r))
-  given-lawful (e ∷ es) h =
-      All-cons (GivenFits (basis_of r)) (given_by e) (map given_by es)
-      (All-head (IsLawfulExport (basis_of r)) e es h).proved
-      (given-lawful es (All-tail (IsLawfulExport (basis_of r)) e es h))
+-- exports are given as they are proved
+pub given-lawful : (b : Basis) (es : List states.Export) → All (IsLawfulExport b) es
+    → All (GivenFits b) (map given_by es)
+given-lawful b [] h = All-nil (GivenFits b)
+given-lawful b (e ∷ es) h =
+    All-cons (GivenFits b) (given_by e) (map given_by es) (All-head (IsLawfulExport b) e es h).proved
+    (given-lawful b es (All-tail (IsLawfulExport b) e es h))
 
+module _ (r : RunState) where
   -- the context of a block
   block-lawful : (outer : Context) (statements : List TagText) (es : List states.Export)
       → AreLawfulGivens IsWritable r outer.theorems → All (IsLawfulExport (basis_of r)) es
       → AreLawfulGivens IsWritable r (context_in outer statements es).theorems
   block-lawful outer statements es given h = All-append (GivenFits (basis_of r)) (map given_by es) outer.theorems
-      (given-lawful es h) given
+      (given-lawful (basis_of r) es h) given
 
 -- a block's context, over a session whose run is as before
 pub inner-lawful : (s t : Session) (outer inner : code.Context) (statements : List TagText) (imports : List Export)

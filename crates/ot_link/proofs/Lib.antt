@@ -29,6 +29,8 @@ pub mod Held
 pub mod EachOnce
 -- What is lawful over a run is lawful over a later one.
 pub mod Lawful
+-- What the stated run of a theory file leaves is lawful.
+pub mod EndsLawful
 -- What the run of an article or a block leaves.
 pub mod Leaving
 pub mod FileTags

@@ -9,4 +9,5 @@ pub mod Adding
 pub mod Holding
 pub mod Running
 pub mod Lawful
+pub mod Laws
 pub mod Shown

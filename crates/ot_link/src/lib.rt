@@ -5,6 +5,7 @@ mod article;
 mod blocks;
 mod exports;
 mod fault;
+mod laws;
 mod linking;
 mod reading;
 mod renaming;
@@ -13,5 +14,6 @@ mod showing;
 
 pub use article::run_alone;
 pub use fault::LinkFault;
+pub use laws::ends_law;
 pub use linking::link;
 pub use showing::shown;

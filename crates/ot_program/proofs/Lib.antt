@@ -11,3 +11,4 @@ pub mod FindingLemmas
 pub mod VerdictLemmas
 pub mod ReplyLemmas
 pub mod Options
+pub mod SoundAnswers

@@ -12,7 +12,7 @@ use Rattle.ot_program.specs.Verdicts.{End, Finished, IsAnswer, IsEnd, EndsAs, Is
 use Rattle.ot_program.specs.declared.report.Verdict.{Verdict}
 
 -- what it ends with is proved
-log_proved : (p : Proved) → AreProved p → IsProved (log_lists p)
+pub log_proved : (p : Proved) → AreProved p → IsProved (log_lists p)
 log_proved p proved = record {
   assumptions = λ i d within. proved.assumptions i _ (slice_get-get_or p.assumptions i d within);
   accepted = proved.accepted;

@@ -6,7 +6,6 @@ use Rattle.std.proofs.lemmas.List.{length-map}
 use Rattle.std.proofs.lemmas.List.Elements.{All-map}
 use Rattle.std.proofs.lemmas.Simd.{map-map}
 use Rattle.ot_logic.specs.Naming.{names}
-use Rattle.ot_logic.specs.Hol.{Accepted as AcceptedLists}
 use Rattle.ot_laws.specs.Theorem.{IsTheorem}
 use Rattle.ot_args.specs.declared.sections.Sections.{Sections}
 use Rattle.ot_kernel.specs.State.{State, theorem_at, IsSoundState}
@@ -75,12 +74,9 @@ is_proved s es r sound within = record {
 }
 
 -- what each exported theorem rests on suffices for it
-pub are_supported : (s : Session) (es : List Export) → UsesSuffice IsWritable → IsRun s → IsSoundState s.kernel
-    → IsLawfulEnds s es → AreSupported (ran_from s es)
-are_supported s es law r sound lawful =
-    let accepted : AcceptedLists names (assumptions_of (ran_from s es)) (definitions_of (ran_from s es)) =
-    rw (assumptions_are s es r, definitions_are s es r) sound.accepted in
-    λ i d here. law (run_of s) lawful.run accepted _ (lawful.exports i d here)
+pub are_supported : (s : Session) (es : List Export) → UsesSuffice IsWritable → IsLawfulEnds s es
+    → AreSupported (ran_from s es)
+are_supported s es law lawful = λ i d here. law (run_of s) lawful.run _ (lawful.exports i d here)
 
 -- the numbers of the exports are of the kernel
 pub exported_within : (s : Session) (es : List Export) (ths : List ℕ) → ths ≡ map (λ e. e.th) es

@@ -2,5 +2,6 @@
 pub mod Texts
 pub mod Reply
 pub mod Answer
+pub mod Laws
 pub mod Verdicts
 pub mod Wording

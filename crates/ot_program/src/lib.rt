@@ -3,6 +3,7 @@
 
 mod finding;
 mod input;
+mod laws;
 mod log;
 mod noted;
 mod program;
@@ -14,6 +15,7 @@ mod status;
 mod task;
 mod texts;
 
+pub use laws::answer_law;
 pub use program::run;
 pub use status::Status;
 pub use texts::OUT_OF_MEMORY;

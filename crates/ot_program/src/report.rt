@@ -269,7 +269,6 @@ fn uses(alloc: Global, path: &str, session: &Session, exports: &[Export]) -> Res
     ensures ends { IfOk result (UsesEndsAs path.now (ran_from session.now exports.now)) }
     ensures supported { OnOk result (AreSupported (ran_from session.now exports.now)) }
 {
-    session.kernel().sound();
     uses_law();
     let limit = Limits::standard().summary_bytes;
     let mut text = Vec::new(alloc);

@@ -97,7 +97,7 @@ module _ (al : List (Sequent Name)) (dl : List (Definition Name)) where
 
   -- ---- each word
 
-  read-term : (r : Read) → GoodRead r → IfOk (r >>= as_term) (IsWellTyped names)
+  pub read-term : (r : Read) → GoodRead r → IfOk (r >>= as_term) (IsWellTyped names)
   read-term r g = if_bind r as_term (IsGood al dl) (IsWellTyped names) g term-good
 
   pub read-theorem : (r : Read) → GoodRead r → IfOk (r >>= as_theorem) (IsTheorem names al dl)

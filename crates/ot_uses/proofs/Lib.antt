@@ -2,8 +2,10 @@
 mod Parted
 mod Leaves
 mod Resting
-mod Goodness
+mod Reached
+pub mod Goodness
 mod Suffices
+mod Sound
 mod Using
 mod Lines
 mod Renamed

@@ -158,7 +158,7 @@ module _ (al bl : List (Sequent Name)) (ms : List Made) (seqs : AreSequents name
           }
 
   mutual
-    stand-leaves : (es : List Made) → IsPart es ms → (o : Origin Name) → StandsOn bl es o
+    pub stand-leaves : (es : List Made) → IsPart es ms → (o : Origin Name) → StandsOn bl es o
         → HasLeaves bl (definitions_of es) o
     stand-leaves es part (Number k) s = tt
     stand-leaves es part (Named n) s = tt
@@ -166,7 +166,7 @@ module _ (al bl : List (Sequent Name)) (ms : List Made) (seqs : AreSequents name
     stand-leaves es part (Define w os) s = tt
     stand-leaves es part (Outcome j d) s = rw s.2 (outcome-good es part s.0 s.1 j)
 
-    all-leaves : (es : List Made) → IsPart es ms → (os : Origins Name) → AllStand bl es os
+    pub all-leaves : (es : List Made) → IsPart es ms → (os : Origins Name) → AllStand bl es os
         → HaveLeaves bl (definitions_of es) os
     all-leaves es part NoOrigins s = tt
     all-leaves es part (MoreOrigins o os) s = (stand-leaves es part o s.0, all-leaves es part os s.1)

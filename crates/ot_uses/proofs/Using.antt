@@ -1,22 +1,17 @@
 -- What a theorem of a lawful run rests on suffices for it.
 use Rattle.std.specs.Prelude.{◌&&◌, not}
 use Rattle.std.specs.Bool.{Decides}
-use Rattle.std.specs.List.{All}
-use Rattle.std.proofs.Common.{◌≡◌, ℕ, zero, suc, true, false, List, [], ◌∷◌, Some, Result, Ok, refl}
-use Rattle.std.proofs.Common.{sym, ap, subst, ◌∙◌, map, take, slice_get, inl, inr, ◌⊎◌, arith}
+use Rattle.std.proofs.Common.{◌≡◌, ℕ, zero, suc, true, false, List, [], ◌∷◌, Some, Ok, refl}
+use Rattle.std.proofs.Common.{sym, ap, subst, ◌∙◌, map, take, slice_get, inl, inr, ◌⊎◌}
 use Rattle.ot_logic.specs.Names.{Name, same_name-Decides}
 use Rattle.ot_logic.specs.Naming.{names}
 use Rattle.ot_logic.specs.Lists.{IsMember, IsPart}
-use Rattle.ot_logic.specs.Trees.{Sequent, Definition}
+use Rattle.ot_logic.specs.Trees.{Sequent}
 use Rattle.ot_logic.specs.Hol.{IsSequent}
-use Rattle.ot_logic.specs.Faults.{Fault}
-use Rattle.ot_logic.specs.declared.command.Cmd.{Cmd}
 use Rattle.ot_logic.specs.declared.command.Cmd.TheVariants as words
-use Rattle.ot_laws.specs.Theorem.{AreSequents}
 use Rattle.ot_laws.proofs.Tests.{cases_of}
-use Rattle.ot_trace.specs.Origins.{Origin, Origins, Number, Named, Make, Define}
-use Rattle.ot_trace.specs.Origins.{Outcome, NoOrigins, MoreOrigins, listed}
-use Rattle.ot_trace.specs.Reach.{IsReached, Root, Operand, OfTheorem}
+use Rattle.ot_trace.specs.Origins.{Origin, Origins, Make}
+use Rattle.ot_trace.specs.Reach.{IsReached, Root}
 use Rattle.ot_written.specs.Needed.{is_among, needed_definitions, needed_origins}
 use Rattle.ot_written.specs.Laws.{Tells}
 use Rattle.ot_written.proofs.Filters.{filter-to, filter-from}
@@ -24,26 +19,20 @@ use Rattle.ot_written.proofs.Kept.{kept, kept-is}
 use Rattle.ot_written.proofs.NeededDefinitions.{needed-reached, reached-needed, reached-origin}
 use Rattle.ot_written.proofs.NeededLaw.{among-to, among-from}
 use Rattle.ot_written.proofs.Same.{same-origin-law}
-use Rattle.ot_machine.specs.Objects.{Object, theorem}
+use Rattle.ot_machine.specs.Objects.{theorem}
 use Rattle.ot_machine.specs.States.{Given, Made}
 use Rattle.ot_machine.specs.Rows.{definitions_of}
 use Rattle.ot_machine.specs.Values.{value, definition_of}
-use Rattle.ot_machine.specs.Lawful.{Basis, RestsOn, AreOn, IsTaken, GivenFits, basis_of, run_basis}
-use Rattle.ot_machine.proofs.Fewer.{none-fewer}
-use Rattle.ot_machine.proofs.DefinitionFewer.{definition-fewer}
+use Rattle.ot_machine.specs.Lawful.{basis_of, run_basis}
 use Rattle.ot_uses.specs.Used.{same, is_assumed, used_assumptions, used_definitions}
 use Rattle.ot_uses.specs.Suffices.{UsesSuffice}
 use Rattle.ot_uses.proofs.Parted.{IsInOrder}
-use Rattle.ot_uses.proofs.Resting.{IsAssumed, StandsOn, AllStand, StandsMade, Suffice}
-use Rattle.ot_uses.proofs.Suffices.{parts_suffice, get-map, ok_if, value-axiom, IsProposed}
+use Rattle.ot_uses.proofs.Reached.{reached-stands}
+use Rattle.ot_uses.proofs.Resting.{StandsOn, StandsMade, Suffice}
+use Rattle.ot_uses.proofs.Sound.{is-define, own, given-sequent, sequents, taken, accepted}
+use Rattle.ot_uses.proofs.Suffices.{parts_suffice}
 use Rattle.ot_logic.proofs.Members.{IsMember-at, IsMember-map, IsMember-map_back, IsPart-take, IsMember-place}
 use Rattle.ot_logic.proofs.Members.{All-from_members}
-use Rattle.ot_logic.proofs.Results.{same_Ok}
-
-all-member : {A : Type 0} (P : A → Type 0) (xs : List A) → All P xs → (x : A) → IsMember x xs → P x
-all-member P [] h x m = absurd m
-all-member P (y ∷ ys) h x (inl e) = subst P e (h 0 y (omega arith))
-all-member P (y ∷ ys) h x (inr m) = all-member P ys (λ k d l. h (suc k) d (omega arith)) x m
 
 pub tells : Tells same
 tells = same-origin-law names.same same_name-Decides
@@ -160,44 +149,8 @@ module _ (found : List (Origin Name)) where
         let g : IsMember y (rest (n.origin ∷ before) ns) = rw p.0 at h in kept-found (n.origin ∷ before) ns y g
   ]
 
--- ---- what is reached stands on what is kept
-
-module _ (bl : List (Sequent Name)) (roots ds : List (Origin Name)) (b : Basis) (es : List Made)
-    (definitions : (d : Origin Name) → IsMember d b.definitions → IsReached roots ds d
-    → (m : Made) × IsMember m es × (definition_of [] d ≡ Ok m.definition))
-    (axioms : (os : Origins Name) (q : Sequent Name) → IsMember (Make words.Axiom os) b.axioms
-    → IsReached roots ds (Make words.Axiom os) → value (Make words.Axiom os) ≡ Ok (theorem q) → IsMember q bl) where
-  assumed : (w : Cmd) (os : Origins Name) → IsTaken b w os → IsReached roots ds (Make w os) → IsAssumed bl es w os
-  assumed words.Axiom os t r = λ q e. axioms os q t r e
-  assumed _ os t r = tt
-
-  mutual
-    reached-stands : (o : Origin Name) → RestsOn b o → IsReached roots ds o → StandsOn bl es o
-    reached-stands (Number k) h r = tt
-    reached-stands (Named n) h r = tt
-    reached-stands (Make w os) h r = (all-stand os h.0 (λ p m. Operand (Make w os) p r m), assumed w os h.1 r)
-    reached-stands (Define w os) h r = all-stand os h (λ p m. Operand (Define w os) p r m)
-    reached-stands (Outcome j d) h r = definitions d h.0 (OfTheorem j d r)
-
-    all-stand : (os : Origins Name) → AreOn b os → ((p : Origin Name) → IsMember p (listed os) → IsReached roots ds p)
-        → AllStand bl es os
-    all-stand NoOrigins h r = tt
-    all-stand (MoreOrigins o os) h r = (reached-stands o h.0 (r o (inl refl)), all-stand os h.1 (λ p m. r p (inr m)))
-
--- only a definition is accepted
-is-define : (ds : List (Definition Name)) (o : Origin Name) (x : Definition Name) → definition_of ds o ≡ Ok x
-    → (w : Cmd) × (os : Origins Name) × (o ≡ Define w os)
-is-define ds (Number k) x e = absurd cc
-is-define ds (Named n) x e = absurd cc
-is-define ds (Make w os) x e = absurd cc
-is-define ds (Define w os) x e = (w, os, refl)
-is-define ds (Outcome j d) x e = absurd cc
-
-same_theorem : (p q : Sequent Name) → ◌≡◌ {A = Object} (theorem p) (theorem q) → p ≡ q
-same_theorem p q e = cc
-
 pub uses_suffice : (IsNamed : Name → Type 0) → UsesSuffice IsNamed
-uses_suffice IsNamed r lawful acc e law = record {
+uses_suffice IsNamed r lawful e law = record {
   assumptions = All-from_members (IsSequent names) bl used-sequent;
   accepted = s.accepted;
   theorem = s.theorems o e.sequent stands law.proved.value_is;
@@ -221,32 +174,10 @@ uses_suffice IsNamed r lawful acc e law = record {
     bl : List (Sequent Name)
     bl = map (λ g. g.sequent) (used_assumptions r o)
 
-    -- what lawful runs have
-    given : (g : Given) → IsMember g r.assumptions → value g.origin ≡ Ok (theorem g.sequent)
-    given g m = (all-member (GivenFits (run_basis IsNamed r)) r.assumptions lawful.assumptions g m).value_is
-
-    own : (m : Made) → IsMember m ms → definition_of [] m.origin ≡ Ok m.definition
-    own m here =
-        let (k, at) = IsMember-place m ms here in
-        definition-fewer [] (definitions_of (take k ms)) (none-fewer (definitions_of (take k ms)))
-        m.definition m.origin (lawful.definitions k m at).accepted
-
-    given-sequent : (g : Given) → IsMember g r.assumptions → IsSequent names g.sequent
-    given-sequent g m =
-        let (os, made) = all-member (λ g. (os : Origins Name) × (g.origin ≡ Make words.Axiom os))
-        r.assumptions lawful.axioms g m in
-        (ok_if (value (Make words.Axiom os)) IsProposed (value-axiom os) (theorem g.sequent)
-        (ap value (sym made) ∙ given g m)).0
-
-    seqs : AreSequents names al
-    seqs i q at =
-        let (g, here, is) = get-map (λ g. g.sequent) r.assumptions i q at in
-        subst (IsSequent names) is (given-sequent g (IsMember-at r.assumptions i g here))
-
     used-sequent : (q : Sequent Name) → IsMember q bl → IsSequent names q
     used-sequent q m =
         let (g, here, is) = IsMember-map_back (λ g. g.sequent) q (used_assumptions r o) m in
-        subst (IsSequent names) is (given-sequent g (filter-to (is_assumed r o) g r.assumptions here).0)
+        subst (IsSequent names) is (given-sequent IsNamed r lawful g (filter-to (is_assumed r o) g r.assumptions here).0)
 
     held : (g : Given) → IsMember g r.assumptions → IsReached (o ∷ []) ds g.origin → IsMember g.sequent bl
     held g m reach =
@@ -259,11 +190,8 @@ uses_suffice IsNamed r lawful acc e law = record {
         → IsMember (Make words.Axiom os) (map (λ g. g.origin) r.assumptions)
         → IsReached (o ∷ []) ds (Make words.Axiom os) → value (Make words.Axiom os) ≡ Ok (theorem p) → IsMember p bl
     axioms os p m reach e =
-        let (g, here, is) = IsMember-map_back (λ g. g.origin) (Make words.Axiom os) r.assumptions m in
-        let v : ◌≡◌ {A = Result Object (Fault Name)} (Ok (theorem g.sequent)) (Ok (theorem p)) =
-        sym (given g here) ∙ ap value is ∙ e in
-        subst (λ z. IsMember z bl) (same_theorem g.sequent p (same_Ok (theorem g.sequent) (theorem p) v))
-        (held g here (subst (IsReached (o ∷ []) ds) (sym is) reach))
+        let (g, here, is, same_sequent) = taken IsNamed r lawful os p m e in
+        subst (λ z. IsMember z bl) same_sequent (held g here (subst (IsReached (o ∷ []) ds) (sym is) reach))
 
     -- the definitions that are kept
     es : List Made
@@ -287,7 +215,7 @@ uses_suffice IsNamed r lawful acc e law = record {
         subst (λ z. IsMember z ds) is (IsMember-map (λ m. m.origin) x ms (part x here)) in
         let (y, kept_y, same_y) = has x here
         (subst (λ z. IsMember z found) (sym is) (reached-needed same tells (o ∷ []) ds d inside reach)) (λ h. h) in
-        (y, kept_y, ap (definition_of []) (sym (same_y ∙ is)) ∙ own y (inner y kept_y))
+        (y, kept_y, ap (definition_of []) (sym (same_y ∙ is)) ∙ own IsNamed r lawful y (inner y kept_y))
 
     order : IsInOrder es ms
     order i m at = let (k, old, part, has) = kept-place found [] ms i m at in (k, old, part)
@@ -318,7 +246,7 @@ uses_suffice IsNamed r lawful acc e law = record {
         (front ms es (λ x n. n) es-part (kept-all found [] ms)) axioms o law.proved.rests (Root o (inl refl))
 
     s : Suffice al bl ms (used_definitions r o)
-    s = subst (Suffice al bl ms) es-are (parts_suffice al bl ms es seqs acc order made)
+    s = subst (Suffice al bl ms) es-are (parts_suffice al bl ms es (sequents IsNamed r lawful) (accepted IsNamed r lawful) order made)
 
     stands : StandsOn bl (used_definitions r o) o
     stands = subst (λ z. StandsOn bl z o) es-are stands-kept

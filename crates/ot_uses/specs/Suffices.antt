@@ -1,12 +1,10 @@
 -- The law that what a theorem rests on suffices for it.
-use Rattle.std.specs.Prelude.{map}
 use Rattle.std.specs.List.{All}
 use Rattle.ot_logic.specs.Names.{Name}
 use Rattle.ot_logic.specs.Naming.{names}
 use Rattle.ot_logic.specs.Hol.{IsSequent, Accepted}
 use Rattle.ot_laws.specs.Theorem.{IsTheorem}
 use Rattle.ot_machine.specs.States.{Export, RunState}
-use Rattle.ot_machine.specs.Rows.{definitions_of}
 use Rattle.ot_machine.specs.Lawful.{IsLawfulRun, IsLawfulExport, run_basis}
 use Rattle.ot_uses.specs.Used.{Support, support_of}
 
@@ -17,9 +15,8 @@ pub record IsSupported (s : Support) : Type 0 where
   pub accepted : Accepted names s.assumptions s.definitions
   pub theorem : IsTheorem names s.assumptions s.definitions s.theorem
 
--- so it is with each lawful export of a lawful run whose definitions are accepted
+-- so it is with each lawful export of a lawful run
 abbrev pub UsesSuffice : (Name → Type 0) → Type 0
 UsesSuffice IsNamed =
-    (r : RunState) → IsLawfulRun IsNamed r
-    → Accepted names (map (λ g. g.sequent) r.assumptions) (definitions_of r.definitions)
-    → (e : Export) → IsLawfulExport (run_basis IsNamed r) e → IsSupported (support_of r e)
+    (r : RunState) → IsLawfulRun IsNamed r → (e : Export) → IsLawfulExport (run_basis IsNamed r) e
+    → IsSupported (support_of r e)

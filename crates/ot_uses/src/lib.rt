@@ -7,6 +7,6 @@ mod places;
 mod text;
 
 pub use finding::uses;
-pub use laws::uses_law;
+pub use laws::{run_soundness_law, uses_law};
 pub use places::Uses;
 pub use text::uses_text;

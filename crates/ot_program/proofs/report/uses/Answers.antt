@@ -17,10 +17,8 @@ returns-in-Ok-clause-ends c =
 
 pub returns-in-Ok-clause-supported : goal.returns-in-Ok-clause-supported
 returns-in-Ok-clause-supported c =
-    are_supported c.args.session.now c.args.exports.now c.uses_law.ensures.written
-    c.requires.session (rw c.kernel.ensures at c.sound.ensures) c.requires.lawful
+    are_supported c.args.session.now c.args.exports.now c.uses_law.ensures.written c.requires.lawful
 
 pub returns-in-Err-TooLarge-clause-supported : goal.returns-in-Err-TooLarge-clause-supported
 returns-in-Err-TooLarge-clause-supported c =
-    are_supported c.args.session.now c.args.exports.now c.uses_law.ensures.written
-    c.requires.session (rw c.kernel.ensures at c.sound.ensures) c.requires.lawful
+    are_supported c.args.session.now c.args.exports.now c.uses_law.ensures.written c.requires.lawful

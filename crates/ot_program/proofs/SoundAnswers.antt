@@ -1,0 +1,267 @@
+-- What a stated task ends with is proved.
+use Rattle.std.specs.Prelude.{Bool, true, false, Option, Some, None, IfSome, Result, Ok, Err, IfOk, ◌∷◌}
+use Rattle.std.specs.Prelude.{if◌then◌else◌}
+use Rattle.std.specs.List.{All}
+use Rattle.std.specs.Option.{option_map, option_and_then}
+use Rattle.std.proofs.Common.{◌≡◌, ℕ, List, [], refl}
+use Rattle.std.proofs.lemmas.List.Elements.{All-nil, All-cons, All-map}
+use Rattle.ot_logic.specs.Names.{Name}
+use Rattle.ot_logic.specs.Naming.{names}
+use Rattle.ot_logic.specs.Trees.{Sequent}
+use Rattle.ot_logic.specs.Answers.{◌>>=◌, some_or}
+use Rattle.ot_laws.specs.Theorem.{IsTheorem}
+use Rattle.ot_laws.proofs.Grown.{accepted-nil}
+use Rattle.ot_io.specs.Folder.{Folder, bytes_at}
+use Rattle.ot_args.specs.Grammar.{is_theory}
+use Rattle.ot_blocks.specs.Paths.{package_path}
+use Rattle.ot_repo.specs.Required.{Refusal, required}
+use Rattle.ot_scan.specs.Lines.{lines_of}
+use Rattle.ot_theory.specs.Lines.{LineText, lines_of as text_lines}
+use Rattle.ot_link.specs.Stops.{Stop, Missing, Linked}
+use Rattle.ot_link.specs.Blocks.{Ran, article_end}
+use Rattle.ot_link.specs.Laws.{IsAnyName, IsLawfulRan, EndsAreLawful}
+use Rattle.ot_uses.specs.Sound.{LawfulIsSound}
+use Rattle.ot_records.specs.Check.{Outcome as LogOutcome, Ends, Stops}
+use Rattle.ot_records.specs.Sound.{LogsAreSound}
+use Rattle.ot_verify.specs.Reading.{log_check, tokens_of}
+use Rattle.ot_verify.specs.Verifying.{proved_by}
+use Rattle.ot_read.specs.Lines.{RefusedLine, at_line, term_read, lines_read}
+use Rattle.ot_sample.specs.Sample.{sample}
+use Rattle.ot_program.specs.Reply.{TaskValue, RunInput, RunSample, MakeSample, CheckLog, ShowReadable, ReadLines}
+use Rattle.ot_program.specs.Reply.{FindPattern, result_of, lists_of, run_lists, run_at, standard_run, article_run}
+use Rattle.ot_program.specs.Reply.{theory_run, outcome, is_standard, article_limit, limits, sample_path}
+use Rattle.ot_program.specs.Reply.{Noted, shown_at, theory_shown, noted, noted_known, noted_at, notation}
+use Rattle.ot_program.specs.Reply.{Readings, ReadStop, text_in, readings, read_under, read_in, read_behind, read_at}
+use Rattle.ot_program.specs.Reply.{PackageRun, Searched, FindStop, InRequired, InRun, InPattern, stops_as, log_lists}
+use Rattle.ot_program.specs.Reply.{package_runs, search, search_theory, find_at}
+use Rattle.ot_program.specs.Reply.{log_end, check_bytes, check_file, check_at, NoLog}
+use Rattle.ot_program.specs.Answer.{IsProved}
+use Rattle.ot_program.specs.Laws.{AnswersAreSound}
+use Rattle.ot_uses.proofs.Goodness.{if_bind, any_bind}
+use Rattle.ot_program.proofs.FindingLemmas.{ok_more}
+use Rattle.ot_program.proofs.LogLemmas.{log_proved}
+use Rattle.ot_program.proofs.Options.{if_some, mapped}
+
+-- ---- where an answer is made of others
+
+known : {A B : Type 0} (o : Option A) (f : A → B) (P : B → Type 0) → ((x : A) → P (f x)) → IfSome (option_map f o) P
+known None f P all = tt
+known (Some x) f P all = all x
+
+as_stop : {A E F : Type 0} (f : E → F) (r : Result A E) (P : A → Type 0) → IfOk r P → IfOk (stops_as f r) P
+as_stop f (Ok x) P p = p
+as_stop f (Err e) P p = tt
+
+module _ (ends : EndsAreLawful) (sound : LawfulIsSound IsAnyName) where
+  -- ---- runs
+
+  abbrev IsProvedRun : Ran → Type 0
+  IsProvedRun r = IsProved (run_lists r)
+
+  ran_proved : (r : Ran) → IsLawfulRan r → IsProvedRun r
+  ran_proved r h =
+      let s = sound r.run h.run in
+      record {
+        assumptions = s.assumptions;
+        accepted = s.accepted;
+        theorems = All-map (IsTheorem names _ _) (λ e. e.sequent) r.exports
+            (λ i d here. s.theorems _ _ (h.exports i d here).proved);
+      }
+
+  proved_if : (r : Result Ran Stop) → IfOk r IsLawfulRan → IfOk r IsProvedRun
+  proved_if (Ok r) h = ran_proved r h
+  proved_if (Err stop) h = tt
+
+  bytes_proved : (path bytes : List ℕ) → IfOk (article_end path (outcome bytes)) IsProvedRun
+  bytes_proved path bytes =
+      proved_if (article_end path (outcome bytes)) (ends.articles path (lines_of article_limit bytes))
+
+  theory_proved : (packages path : List ℕ) (folder : Folder)
+      → IfOk (theory_run packages path folder).answer IsProvedRun
+  unfolding theory_run
+  theory_proved packages path folder =
+      proved_if _ (ends.theories (record { folder = folder; packages = packages; limits = limits }) path)
+
+  abbrev IsProvedLink : Linked Ran → Type 0
+  IsProvedLink l = IfOk l.answer IsProvedRun
+
+  run_proved : (packages path : List ℕ) (folder : Option Folder) (input : Option (List ℕ))
+      → IfSome (run_at packages path folder input) IsProvedLink
+  run_proved packages path folder input = by (is_standard path) (is_theory path)
+    where
+      by : (b c : Bool)
+          → IfSome (if b then option_map (standard_run path) input
+          else if c then option_map (theory_run packages path) folder
+          else option_map (article_run path) folder) IsProvedLink
+      by true c = known input (standard_run path) IsProvedLink (bytes_proved path)
+      by false true = known folder (theory_run packages path) IsProvedLink (theory_proved packages path)
+      by false false =
+          known folder (article_run path) IsProvedLink
+          (λ files. any_bind (some_or (Missing path) (bytes_at files path))
+          (λ bytes. article_end path (outcome bytes)) IsProvedRun (bytes_proved path))
+
+  -- ---- runs with their notation
+
+  abbrev IsProvedNoted : Noted → Type 0
+  IsProvedNoted n = IsProvedRun n.ran
+
+  abbrev EndsNoted : Result Noted Stop → Type 0
+  EndsNoted r = IfOk r IsProvedNoted
+
+  both_proved : (ns : Result (List Name) Stop) (r : Result Ran Stop) → IfOk r IsProvedRun → EndsNoted (noted ns r)
+  both_proved ns r h =
+      any_bind ns (λ shown. r >>= λ ran. Ok (record { shown = shown; ran = ran })) IsProvedNoted
+      (λ shown. if_bind r (λ ran. Ok (record { shown = shown; ran = ran })) IsProvedRun IsProvedNoted h (λ ran p. p))
+
+  known_proved : (ns : Option (Linked (List Name))) (r : Option (Linked Ran)) → IfSome r IsProvedLink
+      → IfSome (noted_known ns r) EndsNoted
+  known_proved None r h = tt
+  known_proved (Some ns) None h = tt
+  known_proved (Some ns) (Some r) h = both_proved ns.answer r.answer h
+
+  noted_proved : (packages path : List ℕ) (folder : Option Folder) (input : Option (List ℕ))
+      → IfSome (noted_at packages path folder input) EndsNoted
+  noted_proved packages path folder input =
+      known_proved (shown_at path folder) (run_at packages path folder input) (run_proved packages path folder input)
+
+  -- ---- lines that are read
+
+  abbrev EndsRead : Result Readings ReadStop → Type 0
+  EndsRead r = IfOk r (λ read. IsProvedNoted read.noted)
+
+  read_under_proved : (n : Noted) → IsProvedNoted n → (ls : List LineText) → EndsRead (read_under n ls)
+  read_under_proved n h ls = by (lines_read (notation n) ls)
+    where
+      by : (r : Result (List (Sequent Name)) RefusedLine) → EndsRead (readings n ls r)
+      by (Ok qs) = h
+      by (Err refused) = tt
+
+  read_proved : (packages path text : List ℕ) (folder : Option Folder) (input : Option (List ℕ))
+      → IfSome (read_at packages path text folder input) EndsRead
+  read_proved packages path text folder input =
+      by (noted_at packages path folder input) (noted_proved packages path folder input)
+    where
+      by : (o : Option (Result Noted Stop)) → IfSome o EndsNoted
+          → IfSome (option_and_then (read_behind text folder) o) EndsRead
+      by None h = tt
+      by (Some (Err stop)) h = tt
+      by (Some (Ok n)) h =
+          known folder (read_in n text) EndsRead
+          (λ files. any_bind (text_in text files) (λ bytes. read_under n (text_lines bytes))
+          (λ read. IsProvedNoted read.noted) (λ bytes. read_under_proved n h (text_lines bytes)))
+
+  -- ---- a search
+
+  record IsProvedSearch (s : Searched) : Type 0 where
+    input : IsProvedNoted s.noted
+    packages : All (λ p. IsProvedRun p.ran) s.packages
+
+  abbrev EndsFound : Result Searched FindStop → Type 0
+  EndsFound r = IfOk r IsProvedSearch
+
+  packages_proved : (packages : List ℕ) (folder : Folder) (fulls : List (List ℕ))
+      → IfOk (package_runs packages folder fulls) (All (λ p. IsProvedRun p.ran))
+  packages_proved packages folder [] = All-nil (λ p. IsProvedRun p.ran)
+  packages_proved packages folder (full ∷ fulls) =
+      if_bind (theory_run packages (package_path packages full) folder).answer
+      (λ ran. package_runs packages folder fulls >>= λ more. Ok (record { name = full; ran = ran } ∷ more))
+      IsProvedRun (All (λ p. IsProvedRun p.ran)) (theory_proved packages (package_path packages full) folder)
+      (λ ran h. if_bind (package_runs packages folder fulls) (λ more. Ok (record { name = full; ran = ran } ∷ more))
+      (All (λ p. IsProvedRun p.ran)) (All (λ p. IsProvedRun p.ran)) (packages_proved packages folder fulls)
+      (λ more k. All-cons (λ p. IsProvedRun p.ran) (record { name = full; ran = ran }) more h k))
+
+  search_proved : (pattern : List ℕ) (fulls : Result (List (List ℕ)) Refusal) (ran : Result Noted Stop)
+      (runs : List (List ℕ) → Result (List PackageRun) Stop) → EndsNoted ran
+      → ((fs : List (List ℕ)) → IfOk (runs fs) (All (λ p. IsProvedRun p.ran)))
+      → EndsFound (search pattern fulls ran runs)
+  search_proved pattern fulls ran runs h all =
+      any_bind (stops_as InRequired fulls)
+      (λ fs. stops_as InRun ran >>= λ n. stops_as InPattern (at_line 1 (term_read (notation n) pattern)) >>= λ p.
+      stops_as InRun (runs fs) >>= λ ps. Ok (record { noted = n; pattern = p; packages = ps })) IsProvedSearch
+      (λ fs. if_bind (stops_as InRun ran)
+      (λ n. stops_as InPattern (at_line 1 (term_read (notation n) pattern)) >>= λ p.
+      stops_as InRun (runs fs) >>= λ ps. Ok (record { noted = n; pattern = p; packages = ps }))
+      IsProvedNoted IsProvedSearch (as_stop InRun ran IsProvedNoted h)
+      (λ n k. any_bind (stops_as InPattern (at_line 1 (term_read (notation n) pattern)))
+      (λ p. stops_as InRun (runs fs) >>= λ ps. Ok (record { noted = n; pattern = p; packages = ps })) IsProvedSearch
+      (λ p. if_bind (stops_as InRun (runs fs)) (λ ps. Ok (record { noted = n; pattern = p; packages = ps }))
+      (All (λ p. IsProvedRun p.ran)) IsProvedSearch (as_stop InRun (runs fs) (All (λ p. IsProvedRun p.ran)) (all fs))
+      (λ ps l. record { input = k; packages = l }))))
+
+  find_proved : (packages pattern path : List ℕ) (folder : Option Folder) (input : Option (List ℕ))
+      → IfSome (find_at packages pattern path folder input) EndsFound
+  find_proved packages pattern path folder input = by (is_theory path)
+    where
+      over : (o : Option (Result Noted Stop)) → IfSome o EndsNoted
+          → IfSome (option_map (λ ran. search pattern (Ok []) ran (λ fulls. Ok [])) o) EndsFound
+      over None h = tt
+      over (Some ran) h = search_proved pattern (Ok []) ran (λ fulls. Ok []) h (λ fs. All-nil (λ p. IsProvedRun p.ran))
+
+      by : (b : Bool)
+          → IfSome (if b then option_map (search_theory packages pattern path) folder
+          else option_map (λ ran. search pattern (Ok []) ran (λ fulls. Ok [])) (noted_at packages path folder input))
+          EndsFound
+      by true =
+          known folder (search_theory packages pattern path) EndsFound
+          (λ files. search_proved pattern (required files limits.theory_bytes packages path)
+          (noted (theory_shown path files).answer (theory_run packages path files).answer) (package_runs packages files)
+          (both_proved (theory_shown path files).answer (theory_run packages path files).answer
+          (theory_proved packages path files)) (packages_proved packages files))
+      by false =
+          over (noted_at packages path folder input) (noted_proved packages path folder input)
+
+  -- ---- the law
+
+  module _ (logs : LogsAreSound names) where
+    log_bytes_proved : (bytes : List ℕ) → IfOk (check_bytes bytes) (λ p. IsProved (log_lists p))
+    log_bytes_proved bytes = by (log_check article_limit bytes) refl
+      where
+        by : (o : LogOutcome Name) → log_check article_limit bytes ≡ o
+            → IfOk (log_end o) (λ p. IsProved (log_lists p))
+        by (Ends st) e =
+            let h = logs (tokens_of (lines_of article_limit bytes)) st e in
+            log_proved (proved_by st)
+            (record { accepted = h.accepted; assumptions = h.assumptions; results = h.results })
+        by (Stops line fault) e = tt
+
+    log_result : (path : List ℕ) (folder : Option Folder) (input : Option (List ℕ))
+        → IfSome (check_at path folder input) (λ end. IfOk end (λ p. IsProved (log_lists p)))
+    log_result path folder input = by (is_standard path)
+      where
+        by : (b : Bool)
+            → IfSome (if b then option_map check_bytes input else option_map (check_file path) folder)
+            (λ end. IfOk end (λ p. IsProved (log_lists p)))
+        by true = known input check_bytes (λ end. IfOk end (λ p. IsProved (log_lists p))) log_bytes_proved
+        by false =
+            known folder (check_file path) (λ end. IfOk end (λ p. IsProved (log_lists p)))
+            (λ files. any_bind (some_or NoLog (bytes_at files path)) check_bytes (λ p. IsProved (log_lists p))
+            log_bytes_proved)
+
+    result_proved : (t : TaskValue) (folder : Option Folder) (input : Option (List ℕ))
+        → IfSome (result_of t folder input) (λ end. IfOk end (λ made. IsProved (lists_of t made)))
+    result_proved (RunInput packages path view) folder input =
+        mapped (λ l. l.answer) (λ end. IfOk end IsProvedRun) (run_at packages path folder input)
+        (run_proved packages path folder input)
+    result_proved (RunSample n) folder input = bytes_proved sample_path (sample n)
+    result_proved (MakeSample n) folder input = record {
+      assumptions = All-nil _;
+      accepted = accepted-nil names [];
+      theorems = All-nil _;
+    }
+    result_proved (CheckLog path) folder input = log_result path folder input
+    result_proved (ShowReadable packages path) folder input = noted_proved packages path folder input
+    result_proved (ReadLines packages path text) folder input = read_proved packages path text folder input
+    result_proved (FindPattern packages pattern path) folder input =
+        if_some EndsFound (λ end. IfOk end (λ s. IsProvedNoted s.noted)) (find_at packages pattern path folder input)
+        (λ end h. ok_more IsProvedSearch (λ s. IsProvedNoted s.noted) end (λ s k. k.input) h)
+        (find_proved packages pattern path folder input)
+
+    pub answers_are_sound : AnswersAreSound
+    answers_are_sound = record {
+      results = result_proved;
+      packages = λ packages pattern path folder input.
+          if_some EndsFound (λ end. IfOk end (λ s. All (λ p. IsProvedRun p.ran) s.packages))
+          (find_at packages pattern path folder input)
+          (λ end h. ok_more IsProvedSearch (λ s. All (λ p. IsProvedRun p.ran) s.packages) end (λ s k. k.packages) h)
+          (find_proved packages pattern path folder input);
+    }
