@@ -3,5 +3,7 @@ pub mod Causes
 pub mod Sinks
 pub mod Folder
 pub mod Keeping
+pub mod Reading
+pub mod Readings
 pub mod MemoryStates
 pub mod FileList

@@ -1,5 +1,6 @@
-ghost use Rattle.std.specs.Prelude.{◌≡◌, ◌≤◌, ◌+◌, length, take, IfOk, IfErr, IfSome};
+ghost use Rattle.std.specs.Prelude.{◌≡◌, ◌≤◌, ◌+◌, length, take, IfOk, IfErr, IsOkAnd};
 ghost use Rattle.ot_io.specs.Causes.{CountRose};
+ghost use Rattle.ot_io.specs.Reading.{HasRead};
 
 use crate::source::{Failed, Source};
 use std::alloc::Global;
@@ -21,10 +22,10 @@ pub fn read_front<S: Source>(
     source: &mut S,
     max_bytes: usize,
 ) -> Result<Vec<u8>, ReadFault>
-    ensures bytes { IfOk result (λ bytes. IfSome (S.left source.old)
-        (λ left. bytes.items ≡ take (max_bytes + 1) left)) }
-    ensures few { IfSome (S.left source.old) (λ left. IfSome (S.left source.new)
-        (λ rest. length left ≤ length rest + (max_bytes + 1))) }
+    ensures read { HasRead (S.left source.old) (S.left source.new)
+        (IsOkAnd result (λ bytes. length bytes.items ≤ max_bytes))
+        (λ left rest. IfOk result (λ bytes. bytes.items ≡ take (max_bytes + 1) left)
+        × (length left ≤ length rest + (max_bytes + 1))) }
     ensures cause { IfErr result (λ e. e ≡ ReadFault.Failed
         → CountRose (S.faults source.old) (S.faults source.new)) }
     ensures later { S.faults source.old ≤ S.faults source.new }

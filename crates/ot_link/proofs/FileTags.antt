@@ -1,6 +1,6 @@
 -- The namespaces that a theory file shows, from its text and its tags.
-use Rattle.std.specs.Prelude.{Option, Some, None, Ok, IfSome}
-use Rattle.std.proofs.Common.{◌≡◌, ◌∙◌, ℕ, List, ap, refl, sym}
+use Rattle.std.specs.Prelude.{Ok}
+use Rattle.std.proofs.Common.{◌≡◌, ◌∙◌, ℕ, List, ap, sym}
 use Rattle.ot_logic.specs.Names.{Name}
 use Rattle.ot_theory.specs.Theory.{TheoryText, theory}
 use Rattle.ot_kernel.specs.State as kernel
@@ -38,8 +38,3 @@ module _ (k : kernel.State) (e : Setting) (path : List ℕ) where
     shown-parsed t ns u v =
         (rest-on (rest-next (answered (in_theory path (theory text))) names_of t u) behind_text).answer
         ∙ ap Ok (sym v)
-
--- what holds where something is known
-pub told-each : {X : Type 0} {P : X → Type 0} (o : Option X) → ((x : X) → o ≡ Some x → P x) → IfSome o P
-told-each None f = tt
-told-each (Some x) f = f x refl

@@ -1,3 +1,7 @@
+-- What calls read of sources and files, one after the other.
+pub mod Agreeing
+-- Parts of a link that read a file.
+pub mod FileParts
 -- How the run of an article ends.
 pub mod Ending
 -- The article or the package among statements.

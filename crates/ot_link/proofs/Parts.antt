@@ -1,5 +1,5 @@
 -- A link in parts: what stops a part stops the whole.
-use Rattle.std.specs.Prelude.{Option, Some, None, Result, Ok, Err, IfSome, string_bytes}
+use Rattle.std.specs.Prelude.{Result, Ok, Err, string_bytes}
 use Rattle.std.proofs.Common.{◌≡◌, ◌∙◌, ℕ, List, [], ◌∷◌, ◌++◌, inl, inr, refl}
 use Rattle.ot_logic.specs.Lists.{IsMember}
 use Rattle.ot_kernel.specs.State as kernel
@@ -76,9 +76,3 @@ module _ {A : Type 0} (k : kernel.State) (rest whole : Linked A) (is : IsRest re
   pub comes-rest : {X : Type 0} (view : X → A) (r : Result X LinkFault) → Comes k view r rest → Comes k view r whole
   comes-rest view (Ok x) h = is.answer ∙ h
   comes-rest view (Err e) h = stops-rest e h
-
--- ---- facts that hold where the folder is known
-
-pub told-as : {X : Type 0} {P Q : X → Type 0} (o : Option X) → ((x : X) → P x → Q x) → IfSome o P → IfSome o Q
-told-as None f h = tt
-told-as (Some x) f h = f x h

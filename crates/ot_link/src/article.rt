@@ -1,8 +1,9 @@
 //! Articles as they are run in a context.
-ghost use Rattle.std.specs.Prelude.{◌≡◌, ◌≢◌, ◌≤◌, ◌^◌, ℕ, List, Some, Err, IfOk, IfErr, IfSome, string_bytes};
+ghost use Rattle.std.specs.Prelude.{◌≡◌, ◌≢◌, ◌≤◌, ◌^◌, ℕ, Err, IfOk, IfErr, IfSome, IsOk, string_bytes};
 ghost use Rattle.ot_io.specs.Causes.{CountRose};
-ghost use Rattle.ot_io.specs.Folder.{Folder};
 ghost use Rattle.ot_io.specs.Keeping.{KeepsSource, KeepsFiles};
+ghost use Rattle.ot_io.specs.Reading.{HasRead};
+ghost use Rattle.ot_io.specs.Readings.{HasReadFiles};
 ghost use Rattle.ot_scan.specs.Lines.{lines_of};
 ghost use Rattle.ot_machine.specs.States.{fresh_article, fresh_run, no_context};
 ghost use Rattle.ot_machine.specs.Meaning.{run_of, IsRun};
@@ -34,10 +35,9 @@ pub(crate) fn run_article<F: Files>(
 ) -> Result<Vec<Export>, LinkFault>
     requires ready { IsReady session.old context.now }
     requires limit { setting.limits.now.article_bytes ≤ 2 ^ 32 }
-    ensures comes { (folder : Folder) → F.folder files.old ≡ Some folder
-        → Comes session.new.kernel (ran_of session.new) result
+    ensures comes { HasReadFiles (F.folder files.old) (λ folder. Comes session.new.kernel (ran_of session.new) result
         (run_article (setting_of folder setting.entry) (string_bytes path) (context_of session.old context.now)
-        (run_of session.old)) }
+        (run_of session.old))) }
     ensures left { LeavesExports NamesSymbolIn result session.old session.new }
     ensures cause { IfErr result (λ e. HasCause e (F.misses files.old) (F.misses files.new) (F.faults files.old)
         (F.faults files.new) (F.at files.new)) }
@@ -53,6 +53,9 @@ pub(crate) fn run_article<F: Files>(
 /// Runs the article of a path that a source has left by itself, and gives its exports: its symbols have the names
 /// that it gives them, and no theorem comes from elsewhere. The session is fresh, and the limits are at most those of
 /// the program.
+///
+/// Some bytes of the source were read, to its end where the answer is Ok; the answer is that of the run over these bytes
+/// and any that may follow them. A source that is known had just these bytes in front.
 ///
 /// - `Article`: the first fault of the article, with this path and its line.
 /// - `ReadFault`: only where the source failed in this call.
@@ -70,6 +73,12 @@ pub fn run_alone<S: Source>(
     requires session { IsRun session.old }
     requires fresh { run_of session.old ≡ fresh_run }
     requires limits { AreWithin limits.now }
+    ensures reads { HasRead (S.left source.old) (S.left source.new) (IsOk result)
+        (λ bytes rest. Comes session.new.kernel (ran_of session.new) result
+        (answered_by (string_bytes path)
+        (article_end (string_bytes path)
+        (run no_context (lines_of limits.now.article_bytes bytes)
+        (record { article = fresh_article; run = fresh_run }))))) }
     ensures ends { IfSome (S.left source.old) (λ bytes. Comes session.new.kernel (ran_of session.new) result
         (answered_by (string_bytes path)
         (article_end (string_bytes path)
@@ -110,12 +119,12 @@ fn run_named<S: Source>(
 ) -> Result<Vec<Export>, LinkFault>
     requires ready { IsReady session.old context.now }
     requires limit { setting.limits.now.article_bytes ≤ 2 ^ 32 }
-    ensures ends { (bytes : List ℕ) → S.left source.old ≡ Some bytes
-        → Comes session.new.kernel (ran_of session.new) result
+    ensures ends { HasRead (S.left source.old) (S.left source.new) (IsOk result)
+        (λ bytes rest. Comes session.new.kernel (ran_of session.new) result
         (answered_by (string_bytes path)
         (article_end (string_bytes path)
         (run (context_of session.old context.now) (lines_of setting.entry.limits.now.article_bytes bytes)
-        (record { article = fresh_article; run = run_of session.old })))) }
+        (record { article = fresh_article; run = run_of session.old }))))) }
     ensures own { IfErr result (IsOfArticle (string_bytes path)) }
     ensures left { LeavesExports NamesSymbolIn result session.old session.new }
     ensures cause { IfErr result (λ e. HasFailed e (S.faults source.old) (S.faults source.new)) }
@@ -138,7 +147,8 @@ fn run_source<S: Source>(
 ) -> Result<Vec<Export>, ArticleFault>
     requires ready { IsReady session.old context.now }
     requires limit { setting.limits.now.article_bytes ≤ 2 ^ 32 }
-    ensures ends { IfSome (S.left source.old) (λ bytes. EndsAs session.new result
+    ensures ends { HasRead (S.left source.old) (S.left source.new) (IsOk result)
+        (λ bytes rest. EndsAs session.new result
         (run (context_of session.old context.now) (lines_of setting.entry.limits.now.article_bytes bytes)
         (record { article = fresh_article; run = run_of session.old }))) }
     ensures left { LeavesExports NamesSymbolInArticle result session.old session.new }

@@ -3,8 +3,8 @@ ghost use Rattle.std.specs.Prelude.{◌≡◌, ◌<◌, ◌++◌, ◌∷◌, ℕ
 ghost use Rattle.std.specs.Prelude.{position, slice_get, slice_index_or, IfOk, IfErr, string_bytes};
 ghost use Rattle.std.specs.List.{All, list_any};
 ghost use Rattle.std.specs.Str.{bytes_eq};
-ghost use Rattle.ot_io.specs.Folder.{Folder};
 ghost use Rattle.ot_io.specs.Keeping.{KeepsFiles};
+ghost use Rattle.ot_io.specs.Readings.{HasReadFiles};
 ghost use Rattle.ot_theory.specs.Answers.{block_of, blocks_of, tags_of};
 ghost use Rattle.ot_blocks.specs.Paths.{is_package};
 ghost use Rattle.ot_blocks.specs.Answers.{plan_of};
@@ -138,12 +138,11 @@ fn run_source<'x, F: Files>(
     requires source { IsSourceRight (source_value source) }
     requires imports { All (IsExportIn session.old) imports.now }
     requires lawful_imports { AreLawfulExports session.old imports.now }
-    ensures comes { (folder : Folder) → F.folder files.old ≡ Some folder
-        → Comes session.new.kernel (ran_of session.new) result
+    ensures comes { HasReadFiles (F.folder files.old) (λ folder. Comes session.new.kernel (ran_of session.new) result
         (run_source (setting_of folder setting.entry) (opener_of (setting_of folder setting.entry) file.now)
         (string_bytes file.now.path)
         (map (export_of session.old) imports.now) (source_value source.entry) (context_of session.old context.now)
-        (run_of session.old)) }
+        (run_of session.old))) }
     ensures left { LeavesExports NamesSymbolIn result session.old session.new }
     ensures cause { IfErr result (λ e. HasCause e (F.misses files.old) (F.misses files.new) (F.faults files.old)
         (F.faults files.new) (F.at files.new)) }
@@ -178,10 +177,9 @@ fn open_package<'x, F: Files>(
     requires limits { AreWithin setting.limits.now }
     requires ready { IsReady session.old context.now }
     requires full { is_package full.now ≡ true }
-    ensures comes { (folder : Folder) → F.folder files.old ≡ Some folder
-        → Comes session.new.kernel (ran_of session.new) result
+    ensures comes { HasReadFiles (F.folder files.old) (λ folder. Comes session.new.kernel (ran_of session.new) result
         (opener_of (setting_of folder setting.entry) file.now line full.now (context_of session.old context.now)
-        (run_of session.old)) }
+        (run_of session.old))) }
     ensures left { LeavesExports NamesSymbolIn result session.old session.new }
     ensures cause { IfErr result (λ e. HasCause e (F.misses files.old) (F.misses files.new) (F.faults files.old)
         (F.faults files.new) (F.at files.new)) }
@@ -224,12 +222,11 @@ fn run_block<F: Files>(
     requires block { IsRunnable (block_of block.now) }
     requires imports { All (IsExportIn session.old) imports.now }
     requires lawful_imports { AreLawfulExports session.old imports.now }
-    ensures comes { (folder : Folder) → F.folder files.old ≡ Some folder
-        → Comes session.new.kernel (ran_of session.new) result
+    ensures comes { HasReadFiles (F.folder files.old) (λ folder. Comes session.new.kernel (ran_of session.new) result
         (run_block (setting_of folder setting.entry) (opener_of (setting_of folder setting.entry) file.now)
         (string_bytes file.now.path)
         (context_of session.old file.now.outer.now) (block_of block.now) (map (export_of session.old) imports.now)
-        (run_of session.old)) }
+        (run_of session.old))) }
     ensures left { LeavesExports NamesSymbolIn result session.old session.new }
     ensures cause { IfErr result (λ e. HasCause e (F.misses files.old) (F.misses files.new) (F.faults files.old)
         (F.faults files.new) (F.at files.new)) }
@@ -275,13 +272,12 @@ fn run_next<F: Files>(
     requires blocks { All IsRunnable (blocks_of blocks.now) }
     requires done { (b : ℕ) → All (IsExportIn session.old) (held_at done.now b) }
     requires lawful_done { (b : ℕ) → AreLawfulOnce session.old (held_at done.now b) }
-    ensures comes { (folder : Folder) → F.folder files.old ≡ Some folder
-        → Comes session.new.kernel (ran_of session.new) result
+    ensures comes { HasReadFiles (F.folder files.old) (λ folder. Comes session.new.kernel (ran_of session.new) result
         (run_at (setting_of folder setting.entry) (opener_of (setting_of folder setting.entry) file.now)
         (string_bytes file.now.path)
         (context_of session.old file.now.outer.now)
         (imported (plan_of plan.now).imports (done_of session.old done.now) place)
-        (slice_get (blocks_of blocks.now) place) (run_of session.old)) }
+        (slice_get (blocks_of blocks.now) place) (run_of session.old))) }
     ensures left { LeavesExports NamesSymbolIn result session.old session.new }
     ensures cause { IfErr result (λ e. HasCause e (F.misses files.old) (F.misses files.new) (F.faults files.old)
         (F.faults files.new) (F.at files.new)) }
@@ -307,12 +303,11 @@ fn run_blocks<F: Files>(
     requires limits { AreWithin setting.limits.now }
     requires ready { IsReady session.old file.now.outer.now }
     requires blocks { All IsRunnable (blocks_of blocks.now) }
-    ensures comes { (folder : Folder) → F.folder files.old ≡ Some folder
-        → Comes session.new.kernel (ran_of session.new) result
+    ensures comes { HasReadFiles (F.folder files.old) (λ folder. Comes session.new.kernel (ran_of session.new) result
         (run_planned (setting_of folder setting.entry) (opener_of (setting_of folder setting.entry) file.now)
         (string_bytes file.now.path)
         (context_of session.old file.now.outer.now) (run_of session.old)
-        (record { blocks = blocks_of blocks.now; plan = plan_of plan.now })) }
+        (record { blocks = blocks_of blocks.now; plan = plan_of plan.now }))) }
     ensures left { LeavesExports NamesSymbolIn result session.old session.new }
     ensures cause { IfErr result (λ e. HasCause e (F.misses files.old) (F.misses files.new) (F.faults files.old)
         (F.faults files.new) (F.at files.new)) }
@@ -338,11 +333,10 @@ pub(crate) fn link_file<F: Files>(
 ) -> Result<Vec<Export>, LinkFault>
     requires limits { AreWithin setting.limits.now }
     requires ready { IsReady session.old file.now.outer.now }
-    ensures comes { (folder : Folder) → F.folder files.old ≡ Some folder
-        → Comes session.new.kernel (ran_of session.new) result
+    ensures comes { HasReadFiles (F.folder files.old) (λ folder. Comes session.new.kernel (ran_of session.new) result
         (run_file (setting_of folder setting.entry) (opener_of (setting_of folder setting.entry) file.now)
         (string_bytes file.now.path)
-        (context_of session.old file.now.outer.now) (run_of session.old)) }
+        (context_of session.old file.now.outer.now) (run_of session.old))) }
     ensures left { LeavesExports NamesSymbolIn result session.old session.new }
     ensures cause { IfErr result (λ e. HasCause e (F.misses files.old) (F.misses files.new) (F.faults files.old)
         (F.faults files.new) (F.at files.new)) }

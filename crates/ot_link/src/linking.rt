@@ -1,6 +1,6 @@
 ghost use Rattle.std.specs.Prelude.{◌≡◌, [], Some, IfOk, IfErr, IfSome};
-ghost use Rattle.ot_io.specs.Folder.{Folder};
 ghost use Rattle.ot_io.specs.Keeping.{KeepsFiles};
+ghost use Rattle.ot_io.specs.Readings.{HasReadFiles};
 ghost use Rattle.ot_machine.specs.States.{fresh_run};
 ghost use Rattle.ot_machine.specs.Meaning.{run_of, IsRun};
 ghost use Rattle.ot_link.specs.Link.{link};
@@ -23,9 +23,12 @@ use std::alloc::Global;
 /// statements. A package `NAME-VERSION` is the file `NAME.thy` in the folder of that full name in `packages`. The
 /// session is fresh, and the limits are at most those of the program.
 ///
+/// Files were read, each of them missing, whole, or a front of it; the answer is that of the run in every folder that
+/// agrees with this. A folder that is known does.
+///
 /// - `Article`, `Theory`, `Structure`, `TheoryTooLarge`: the first fault of the run, with the path of its file and its line.
 ///   The symbol that a fault of an article names has its name in the session's kernel.
-/// - `NoFile`: only where a file was missing in this call, and where the folder is known, exactly where it is the first fault.
+/// - `NoFile`: only where a file was missing in this call, and exactly where it is the first fault.
 /// - `ReadFault`: only where the files failed in this call; the path is one of those that the run needs.
 /// - `Memory`: may come at any point.
 ///
@@ -42,6 +45,8 @@ pub fn link<F: Files>(
     requires session { IsRun session.old }
     requires fresh { run_of session.old ≡ fresh_run }
     requires limits { AreWithin limits.now }
+    ensures reads { HasReadFiles (F.folder files.old) (λ folder. Comes session.new.kernel (ran_of session.new) result
+        (link (record { folder = folder; packages = packages.now; limits = limits.now }) theory_path.now)) }
     ensures links { IfSome (F.folder files.old) (λ folder. Comes session.new.kernel (ran_of session.new) result
         (link (record { folder = folder; packages = packages.now; limits = limits.now }) theory_path.now)) }
     ensures session { IsRun session.new }
@@ -74,8 +79,8 @@ fn link_first<F: Files>(
     requires session { IsRun session.old }
     requires fresh { run_of session.old ≡ fresh_run }
     requires limits { AreWithin setting.limits.now }
-    ensures comes { (folder : Folder) → F.folder files.old ≡ Some folder
-        → Comes session.new.kernel (ran_of session.new) result (link (setting_of folder setting.entry) path.now) }
+    ensures comes { HasReadFiles (F.folder files.old) (λ folder. Comes session.new.kernel (ran_of session.new) result
+        (link (setting_of folder setting.entry) path.now)) }
     ensures session { IsRun session.new }
     ensures lawful { IsLawfulSession session.new }
     ensures lawful_exports { IfOk result (λ exports. AreLawfulOnce session.new exports.items) }

@@ -1,7 +1,7 @@
 //! Theory files as they are read and planned.
 ghost use Rattle.std.specs.Prelude.{◌≡◌, ◌≤◌, ℕ, List, Option, Some, IfOk, IfErr, codes, true};
-ghost use Rattle.ot_io.specs.Folder.{Folder};
 ghost use Rattle.ot_io.specs.Keeping.{KeepsFiles};
+ghost use Rattle.ot_io.specs.Readings.{HasReadFiles};
 ghost use Rattle.ot_kernel.specs.State.{State};
 ghost use Rattle.ot_theory.specs.Theory.{theory, has_block};
 ghost use Rattle.ot_theory.specs.Sound.{IsSound};
@@ -27,8 +27,8 @@ pub(crate) fn theory_text<F: Files>(
     path: &str,
 ) -> Result<Vec<u8>, LinkFault>
     requires { setting.limits.now.theory_bytes ≤ 1048576 }
-    ensures comes { (folder : Folder) (k : State) → F.folder files.old ≡ Some folder
-        → Comes k (λ text. text.items) result (text_at (setting_of folder setting.entry) path.now) }
+    ensures comes { HasReadFiles (F.folder files.old) (λ folder. (k : State)
+        → Comes k (λ text. text.items) result (text_at (setting_of folder setting.entry) path.now)) }
     ensures symbols { IfErr result (λ e. (k : State) → NamesSymbolIn k e) }
     ensures cause { IfErr result (λ e. HasCause e (F.misses files.old) (F.misses files.new) (F.faults files.old)
         (F.faults files.new) (F.at files.new)) }

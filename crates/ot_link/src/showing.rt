@@ -1,7 +1,7 @@
 //! The namespaces that a theory file shows.
 ghost use Rattle.std.specs.Prelude.{◌≡◌, ◌++◌, [], Some, IfOk, IfErr, IfSome, OnOk};
-ghost use Rattle.ot_io.specs.Folder.{Folder};
 ghost use Rattle.ot_io.specs.Keeping.{KeepsFiles};
+ghost use Rattle.ot_io.specs.Readings.{HasReadFiles};
 ghost use Rattle.ot_kernel.specs.State.{State};
 ghost use Rattle.ot_theory.specs.Answers.{tag_of, tags_of};
 ghost use Rattle.ot_link.specs.Answers.{AreWithin, setting_of, Comes, NamesSymbolIn, HasCause};
@@ -19,8 +19,11 @@ use std::alloc::Global;
 /// is one quoted name shows the namespace that has all its components. Other values have no effect. No block is run
 /// and no package is opened. The limits are at most those of the program.
 ///
+/// The file was read, and is missing, whole, or a front of it; the answer is the stated one in every folder that agrees
+/// with this. A folder that is known does.
+///
 /// - `Theory`, `TheoryTooLarge`: the first fault of the file up to its grammar, as of `link`.
-/// - `NoFile`: only where the file was missing in this call, and where the folder is known, exactly where it is.
+/// - `NoFile`: only where the file was missing in this call, and exactly where it is.
 /// - `ReadFault`: only where the files failed in this call.
 /// - `Memory`: may come at any point.
 ///
@@ -32,6 +35,9 @@ pub fn shown<F: Files>(
     limits: &Limits,
 ) -> Result<Vec<Name>, LinkFault>
     requires { AreWithin limits.now }
+    ensures reads { HasReadFiles (F.folder files.old) (λ folder. (k : State)
+        → Comes k (λ names. names.items) result
+        (stated (record { folder = folder; packages = []; limits = limits.now }) theory_path.now)) }
     ensures shows { IfSome (F.folder files.old) (λ folder. (k : State) → Comes k (λ names. names.items) result
         (stated (record { folder = folder; packages = []; limits = limits.now }) theory_path.now)) }
     ensures symbols { IfErr result (λ e. (k : State) → NamesSymbolIn k e) }
@@ -57,8 +63,8 @@ fn shown_at<F: Files>(
     path: &str,
 ) -> Result<Vec<Name>, LinkFault>
     requires { AreWithin setting.limits.now }
-    ensures comes { (folder : Folder) (k : State) → F.folder files.old ≡ Some folder
-        → Comes k (λ names. names.items) result (stated (setting_of folder setting.entry) path.now) }
+    ensures comes { HasReadFiles (F.folder files.old) (λ folder. (k : State)
+        → Comes k (λ names. names.items) result (stated (setting_of folder setting.entry) path.now)) }
     ensures symbols { IfErr result (λ e. (k : State) → NamesSymbolIn k e) }
     ensures cause { IfErr result (λ e. HasCause e (F.misses files.old) (F.misses files.new) (F.faults files.old)
         (F.faults files.new) (F.at files.new)) }

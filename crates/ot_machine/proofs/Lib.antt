@@ -1,5 +1,6 @@
 -- What a machine stands for stays as its kernel and its cells grow; each command keeps a state lawful.
 pub mod Kept
+pub mod Led
 pub mod Traced
 pub mod InContext
 pub mod Readings

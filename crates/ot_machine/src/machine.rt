@@ -1,5 +1,6 @@
-ghost use Rattle.std.specs.Prelude.{◌≡◌, ◌≢◌, ◌<◌, ◌≤◌, ◌^◌, ℕ, [], length, Err, IfSome, IfErr, OnOk};
+ghost use Rattle.std.specs.Prelude.{◌≡◌, ◌≢◌, ◌<◌, ◌≤◌, ◌^◌, ℕ, [], length, Err, IsOk, IfErr};
 ghost use Rattle.ot_io.specs.Causes.{CountRose};
+ghost use Rattle.ot_io.specs.Reading.{HasRead};
 ghost use Rattle.ot_io.specs.Keeping.{KeepsSource};
 ghost use Rattle.ot_kernel.specs.State.{State};
 ghost use Rattle.ot_scan.specs.Lines.{lines_of};
@@ -124,16 +125,15 @@ impl Machine {
         requires of { IsOf session.old self.old }
         requires context { IsContextOf session.old context.now }
         requires max_bytes { max_bytes ≤ 2 ^ 32 }
-        ensures runs { IfSome (S.left source.old)
-            (λ bytes. Runs session.new.kernel result (context_of session.old context.now) (lines_of max_bytes bytes)
-            (state_of session.old self.old) (state_of session.new self.new)) }
+        ensures runs { HasRead (S.left source.old) (S.left source.new) (IsOk result)
+            (λ bytes rest. Runs session.new.kernel result (context_of session.old context.now)
+            (lines_of max_bytes bytes) (state_of session.old self.old) (state_of session.new self.new)) }
         ensures led { LeadsTo (context_of session.old context.now) (state_of session.old self.old)
             (state_of session.new self.new) }
         ensures of { IsOf session.new self.new }
         ensures grown { Grows session.old session.new }
         ensures symbols { IfErr result (NamesSymbolIn session.new.kernel) }
         ensures apart { (line : ℕ) → result ≢ Err (ArticleFault.At line Fault.Memory) }
-        ensures spent { OnOk result (IfSome (S.left source.old) (λ _. IfSome (S.left source.new) (λ bytes. bytes ≡ []))) }
         ensures cause { result ≡ Err ArticleFault.ReadFault → CountRose (S.faults source.old) (S.faults source.new) }
         ensures kept { KeepsSource S.folder S.faults S.misses S.at source.old source.new }
     {

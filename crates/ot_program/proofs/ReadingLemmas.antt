@@ -9,6 +9,8 @@ use Rattle.std.specs.Option.{option_map, option_and_then}
 use Rattle.ot_logic.specs.Names.{Name}
 use Rattle.ot_logic.specs.Trees.{Tm, Sequent, Symbol}
 use Rattle.ot_io.specs.Folder.{Folder, GivesFile, path_asked, bytes_at}
+use Rattle.ot_io.specs.Reading.{HasRead, OfTold}
+use Rattle.ot_io.proofs.Reading.{HasRead-told}
 use Rattle.ot_args.specs.Grammar.{is_theory}
 use Rattle.ot_kernel.specs.State.{State}
 use Rattle.ot_machine.specs.Meaning.{IsRun}
@@ -192,6 +194,17 @@ take_within : (n : ℕ) (xs : List ℕ) → length (take n xs) ≤ length xs
 take_within zero xs = omega arith
 take_within (suc n) [] = omega arith
 take_within (suc n) (x ∷ xs) = let h = take_within n xs in omega (arith, h)
+
+-- what holds of the bytes that were read, and any behind them, holds of those of a source that told them
+told_front : (left left' : Option (List ℕ)) (P : List ℕ → Type 0) (Q : List ℕ → List ℕ → Type 0)
+    → OfTold left left' (λ all rest. P all × Q all rest) → IfSome left P
+told_front None left' P Q h = tt
+told_front (Some all) None P Q h = absurd h
+told_front (Some all) (Some rest) P Q h = h.0
+
+pub front_told : (left left' : Option (List ℕ)) (E : Type 0) (P : List ℕ → Type 0) (Q : List ℕ → List ℕ → Type 0)
+    → HasRead left left' E (λ all rest. P all × Q all rest) → IfSome left P
+front_told left left' E P Q h = told_front left left' P Q (HasRead-told left left' E (λ all rest. P all × Q all rest) h)
 
 module _ (text : List ℕ) where
   fits_in : (files : Folder) (bytes all : List ℕ) → bytes_at files text ≡ Some all → bytes ≡ take (text_limit + 1) all

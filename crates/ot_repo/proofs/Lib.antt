@@ -20,3 +20,7 @@ pub mod Steps
 pub mod Reached
 -- Small folders, by computation.
 pub mod Rows
+-- What calls read of files, one after the other.
+pub mod Agreeing
+-- The bytes of a file, from the front of it that was read.
+pub mod FileTexts

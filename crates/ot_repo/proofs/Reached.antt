@@ -1,9 +1,10 @@
 -- What the walk over packages has reached.
 use Rattle.std.specs.Prelude.{string_bytes}
 use Rattle.std.proofs.Common.{◌≡◌, ℕ, List, [], ◌∷◌, Result, Ok, Err, Some}
-use Rattle.std.proofs.Common.{None, inl, inr, refl, sym, ap, subst, ◌∙◌, arith}
+use Rattle.std.proofs.Common.{None, length, inl, inr, refl, sym, ap, subst, ◌∙◌, arith}
 use Rattle.std.specs.Prelude.{Option, true, IfErr}
 use Rattle.std.specs.List.{list_any, filter}
+use Rattle.std.specs.Str.{bytes_eq}
 use Rattle.std.proofs.lemmas.Bool.{cases_Bool}
 use Rattle.ot_io.specs.Folder.{Folder}
 use Rattle.ot_logic.specs.Lists.{IsMember}
@@ -13,11 +14,12 @@ use Rattle.ot_theory.specs.Theory.{TagText, TheoryText, theory}
 use Rattle.ot_theory.specs.Answers.{tag_of, tags_of, theory_of}
 use Rattle.ot_theory.specs.declared.theory.Tag.{Tag}
 use Rattle.ot_theory.specs.declared.theory.Theory.{Theory}
-use Rattle.ot_repo.specs.Walk.{Edge}
+use Rattle.ot_repo.specs.Walk.{Edge, walk_from}
 use Rattle.ot_repo.specs.Walks.{Reaches, First, Further, IsReached}
 use Rattle.ot_repo.specs.Required.{Refusal, TheoryTooLarge, IndexTooLarge, text_at, in_file}
 use Rattle.ot_repo.specs.Required.{theory_at, is_requirement, requirements, index_limit}
-use Rattle.ot_repo.specs.Required.{names_of, index_at, index_path, edges_in, edges_of}
+use Rattle.ot_repo.specs.Required.{names_of, index_at, index_path, edges_in, edges_of, walked}
+use Rattle.ot_repo.specs.Required.{required_listed, required_over}
 use Rattle.ot_repo.specs.Laws.{IsWalked, OwnFile, ListFile, PackageFile}
 use Rattle.ot_repo.specs.Answers.{FailsAt, IsInside}
 use Rattle.ot_repo.specs.Reading.{edges_left, IsReachedFile, IsTagFile, TheList, OfPackage, next_at}
@@ -27,6 +29,7 @@ use Rattle.ot_repo.specs.declared.requirements.File.{File}
 use Rattle.ot_repo.specs.declared.walk.Waiting.{Waiting}
 use Rattle.ot_repo.specs.declared.walk.Mark.{Mark}
 use Rattle.ot_repo.proofs.Requiring.{needed_by}
+use Rattle.ot_repo.proofs.SoFar.{Rests}
 use Rattle.ot_repo.proofs.Steps.{target_new}
 
 -- ---- faults
@@ -104,6 +107,12 @@ module _ (edges : List ℕ → Result (List (Edge (List ℕ) Refusal)) Refusal) 
       → ReachedSoFar ws w.file
   reached_finished ws file w s = record { here = s.below w (inl refl); below = λ v m. s.below v (inr m) }
 
+-- over these edges the rest of the walk is the whole one, and the edges that are left were reached
+pub record WalksOn (edges : List ℕ → Result (List (Edge (List ℕ) Refusal)) Refusal) (bound : ℕ)
+    (start : List (Edge (List ℕ) Refusal)) (ws : List Waiting) (file : File) (done : List (List ℕ)) : Type 0 where
+  pub rests : Rests edges (walk_from bytes_eq edges bound start) ws file done
+  pub reached : ReachedSoFar edges start ws file
+
 -- ---- the files that are needed
 
 module _ (folder : Folder) (max : ℕ) (packages : List ℕ) where
@@ -143,6 +152,16 @@ module _ (folder : Folder) (max : ℕ) (packages : List ℕ) where
       → text_at folder index_limit (IndexTooLarge path) path ≡ Ok text
       → names_of path (lines_of text) ≡ Ok listed → index_at folder (index_path packages) ≡ Ok listed
   index_is path text listed same read names = subst (λ z. index_at folder z ≡ Ok listed) same (rw (read, names) refl)
+
+  -- the walk over the list of installed packages is what the tags require
+  pub listed_walk : (listed : List (List ℕ)) (path : List ℕ) (tags : List TagText)
+      (start : List (Edge (List ℕ) Refusal)) → start ≡ edges_in listed path tags
+      → index_at folder (index_path packages) ≡ Ok listed
+      → walked (walk_from bytes_eq (edges_of folder max packages listed) (length listed) start)
+      ≡ required_over folder max packages path tags
+  listed_walk listed path tags start are index =
+      ap (λ es. walked (walk_from bytes_eq (edges_of folder max packages listed) (length listed) es)) are
+      ∙ ap (λ r. r >>= required_listed folder max packages path tags) (sym index)
 
   some_tag : (ts : List Tag) → list_any (λ tag. is_requirement (tag_of tag)) ts ≡ true
       → ¬ (filter is_requirement (tags_of ts) ≡ [])

@@ -257,6 +257,13 @@ module _ (edges : List ℕ → Result (List (Edge (List ℕ) Refusal)) Refusal) 
             (sym none) ∙ r.is;
       }
 
+  pub rests_done : (ws : List Waiting) → ws ≡ [] → Rests edges whole ws file done → walked whole ≡ Ok done
+  rests_done ws last r =
+      let is : rest_of bytes_eq edges r.bound [] [] done ≡ whole =
+      subst (λ es. rest_of bytes_eq edges r.bound [] es done ≡ whole) none
+      (subst (λ xs. rest_of bytes_eq edges r.bound (levels_of xs) (edges_left file) done ≡ whole) last r.is) in
+      ap walked (sym is)
+
 -- ---- what the code pops and pushes
 pub edges_popped : (file left : File) (r : Requirement) → file.path ≡ left.path → file.left.items ≡ left.left.items
     ++ r ∷ [] → edges_left file ≡ edge_at (string_bytes left.path) r ∷ edges_left left
@@ -265,11 +272,12 @@ edges_popped file left r path items =
     ∙ ap (λ rs. map (edge_at (string_bytes left.path)) (reverse rs)) items
     ∙ ap (map (edge_at (string_bytes left.path))) (reverse-append left.left.items (r ∷ []))
 
+pub empty : {X : Type 0} (xs : List X) → length xs ≡ 0 → xs ≡ []
+empty [] e = refl
+empty (x ∷ xs) e = absurd (omega (arith, e))
+
 pub no_edges : (file : File) → length file.left.items ≡ 0 → edges_left file ≡ []
-no_edges file e = ap (λ rs. map (edge_at (string_bytes file.path)) (reverse rs)) (empty file.left.items e) where
-  empty : (rs : List Requirement) → length rs ≡ 0 → rs ≡ []
-  empty [] e = refl
-  empty (r ∷ rs) e = absurd (omega (arith, e))
+no_edges file e = ap (λ rs. map (edge_at (string_bytes file.path)) (reverse rs)) (empty file.left.items e)
 
 pub pushed : {X : Type 0} (more xs : List X) (x : X) → more ≡ xs ++ x ∷ [] → reverse more ≡ x ∷ reverse xs
 pushed more xs x e = ap reverse e ∙ reverse-append xs (x ∷ [])

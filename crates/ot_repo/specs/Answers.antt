@@ -1,5 +1,5 @@
 -- How the code's answers stand to the stated ones. After a read fault, and where memory ran out, the answer is open.
-use Rattle.std.specs.Prelude.{◌≡◌, ℕ, List, true, map, Option, Result, Ok, Err, Vec, String, IfSome, string_bytes}
+use Rattle.std.specs.Prelude.{◌≡◌, ℕ, List, true, map, Option, Result, Ok, Err, Vec, String, IfSome, IfErr, string_bytes}
 use Rattle.std.specs.Global.{Global}
 use Rattle.ot_io.specs.Causes.{CountRose}
 use Rattle.ot_logic.specs.Lists.{IsMember}
@@ -62,3 +62,9 @@ FailsAt P (faults.NotInstalled path line) = Unit {0}
 FailsAt P (faults.RequiresCycle path line) = Unit {0}
 FailsAt P (faults.NoFile path) = Unit {0}
 FailsAt P faults.Memory = Unit {0}
+
+-- the answer is the stated one, and a read fault is at such a path
+pub record IsAnswer {X A : Type 0} (view : X → A) (Needs : List ℕ → Type 0) (result : Result X RepoFault)
+    (stated : Result A Refusal) : Type 0 where
+  pub gives : Gives view result stated
+  pub fails : IfErr result (FailsAt Needs)

@@ -1,13 +1,13 @@
 ghost use Rattle.std.specs.Prelude.{◌≡◌, [], Some, IfOk, IfErr, IfSome};
 ghost use Rattle.std.specs.List.{list_any, filter};
 ghost use Rattle.std.specs.String.{string_bytes};
-ghost use Rattle.ot_io.specs.Folder.{Folder};
+ghost use Rattle.ot_io.specs.Readings.{HasReadFiles};
 ghost use Rattle.ot_io.specs.Keeping.{KeepsFiles};
 ghost use Rattle.ot_theory.specs.Answers.{tag_of, tags_of};
 ghost use Rattle.ot_repo.specs.Required.{required, required_over, is_requirement, index_path};
 ghost use Rattle.ot_repo.specs.Laws.{IsWalked};
 ghost use Rattle.ot_repo.specs.Reading.{IsTagFile};
-ghost use Rattle.ot_repo.specs.Answers.{ArePackages, FailsAt, Gives, names_of, HasCause};
+ghost use Rattle.ot_repo.specs.Answers.{ArePackages, FailsAt, Gives, IsAnswer, names_of, HasCause};
 
 use crate::fault::RepoFault;
 use crate::index::Index;
@@ -27,12 +27,15 @@ use std::alloc::Global;
 /// the order of lines. `installed` is read where the theory file has such a tag, before the value of
 /// the first one. It may have 1,048,576 bytes, and a theory file as many as the limits say.
 ///
-/// - `Theory`, `TheoryTooLarge`, `IndexTooLarge`, `BadIndex`, `NotInstalled`, `RequiresCycle`: where
-///   the folder is known, exactly where the walk stops so, with the path of the file and the line.
-/// - `NoFile`: only where a file was missing in this call, and where the folder is known, exactly
-///   where the walk needs it and stops there.
-/// - `ReadFault`: only where the files failed in this call, at the path that was asked for last, which is one that the walk
-///   needs.
+/// Files were read, each of them missing, whole, or a front of it; the answer is that of the walk in
+/// every folder that agrees with this. A folder that is known does.
+///
+/// - `Theory`, `TheoryTooLarge`, `IndexTooLarge`, `BadIndex`, `NotInstalled`, `RequiresCycle`: exactly
+///   where the walk stops so, with the path of the file and the line.
+/// - `NoFile`: only where a file was missing in this call, and exactly where the walk needs it and
+///   stops there.
+/// - `ReadFault`: only where the files failed in this call, at the path that was asked for last, which is
+///   one that the walk needs.
 /// - `Memory`: may come at any point.
 ///
 /// No file is left open.
@@ -43,6 +46,9 @@ pub fn required<F: Files>(
     packages: &str,
     limits: &Limits,
 ) -> Result<Vec<String>, RepoFault>
+    ensures reads { HasReadFiles (F.folder files.old) (λ folder. IsAnswer names_of
+        (IsWalked folder limits.now.theory_bytes packages.now theory_path.now) result
+        (required folder limits.now.theory_bytes packages.now theory_path.now)) }
     ensures required { IfSome (F.folder files.old) (λ folder. Gives names_of result
         (required folder limits.now.theory_bytes packages.now theory_path.now)) }
     ensures full { IfOk result (λ names. ArePackages (names_of names)) }
@@ -69,14 +75,13 @@ fn required_by<F: Files>(
     files: &mut F,
     path: &str,
 ) -> Result<Vec<String>, RepoFault>
-    ensures required { (folder : Folder) → F.folder files.old ≡ Some folder → Gives names_of result
-        (required folder setting.entry.max_bytes setting.entry.packages.now path.now) }
+    ensures required { HasReadFiles (F.folder files.old) (λ folder. IsAnswer names_of
+        (IsWalked folder setting.entry.max_bytes setting.entry.packages.now path.now) result
+        (required folder setting.entry.max_bytes setting.entry.packages.now path.now)) }
     ensures full { IfOk result (λ names. ArePackages (names_of names)) }
     ensures cause { IfErr result (λ e. HasCause e (F.misses files.old) (F.misses files.new)
         (F.faults files.old) (F.faults files.new) (F.at files.new)) }
     ensures kept { KeepsFiles F.folder F.faults F.misses files.old files.new }
-    ensures failure { (folder : Folder) → F.folder files.old ≡ Some folder → IfErr result
-        (FailsAt (IsWalked folder setting.entry.max_bytes setting.entry.packages.now path.now)) }
 {
     let text = theory_text(setting.alloc, files, path, setting.max_bytes)?;
     let theory = theory_in(setting.alloc, path, &text)?;
@@ -100,16 +105,15 @@ fn required_over<F: Files>(
     path: &str,
     tags: &[Tag<'_>],
 ) -> Result<Vec<String>, RepoFault>
-    ensures required { (folder : Folder) → F.folder files.old ≡ Some folder → Gives names_of result
+    ensures required { HasReadFiles (F.folder files.old) (λ folder. IsAnswer names_of
+        (IsTagFile folder setting.entry.max_bytes setting.entry.packages.now
+        (filter is_requirement (tags_of tags.now))) result
         (required_over folder setting.entry.max_bytes setting.entry.packages.now path.now
-        (filter is_requirement (tags_of tags.now))) }
+        (filter is_requirement (tags_of tags.now)))) }
     ensures full { IfOk result (λ names. ArePackages (names_of names)) }
     ensures cause { IfErr result (λ e. HasCause e (F.misses files.old) (F.misses files.new)
         (F.faults files.old) (F.faults files.new) (F.at files.new)) }
     ensures kept { KeepsFiles F.folder F.faults F.misses files.old files.new }
-    ensures failure { (folder : Folder) → F.folder files.old ≡ Some folder → IfErr result
-        (FailsAt (IsTagFile folder setting.entry.max_bytes setting.entry.packages.now
-        (filter is_requirement (tags_of tags.now)))) }
 {
     let alloc = setting.alloc;
     let index_path = index_path(alloc, setting.packages)?;

@@ -1,6 +1,6 @@
 //! The files that are read.
-ghost use Rattle.std.specs.Prelude.{◌≡◌, List, Some, IfErr};
-ghost use Rattle.ot_io.specs.Folder.{Folder};
+ghost use Rattle.std.specs.Prelude.{◌≡◌, List, IfErr};
+ghost use Rattle.ot_io.specs.Readings.{HasReadFiles};
 ghost use Rattle.ot_io.specs.Keeping.{KeepsFiles};
 ghost use Rattle.ot_theory.specs.Theory.{theory};
 ghost use Rattle.ot_theory.specs.Answers.{theory_of};
@@ -24,9 +24,8 @@ pub(crate) fn theory_text<F: Files>(
     path: &str,
     max_bytes: usize,
 ) -> Result<Vec<u8>, RepoFault>
-    ensures text { (folder : Folder) → F.folder files.old ≡ Some folder →
-        Gives (λ text. text.items) result
-        (text_at folder max_bytes (TheoryTooLarge path.now) path.now) }
+    ensures text { HasReadFiles (F.folder files.old) (λ folder. Gives (λ text. text.items) result
+        (text_at folder max_bytes (TheoryTooLarge path.now) path.now)) }
     ensures cause { IfErr result (λ e. HasCause e (F.misses files.old) (F.misses files.new)
         (F.faults files.old) (F.faults files.new) (F.at files.new)) }
     ensures kept { KeepsFiles F.folder F.faults F.misses files.old files.new }
@@ -47,9 +46,8 @@ pub(crate) fn index_text<F: Files>(
     files: &mut F,
     path: &str,
 ) -> Result<Vec<u8>, RepoFault>
-    ensures text { (folder : Folder) → F.folder files.old ≡ Some folder →
-        Gives (λ text. text.items) result
-        (text_at folder index_limit (IndexTooLarge path.now) path.now) }
+    ensures text { HasReadFiles (F.folder files.old) (λ folder. Gives (λ text. text.items) result
+        (text_at folder index_limit (IndexTooLarge path.now) path.now)) }
     ensures cause { IfErr result (λ e. HasCause e (F.misses files.old) (F.misses files.new)
         (F.faults files.old) (F.faults files.new) (F.at files.new)) }
     ensures kept { KeepsFiles F.folder F.faults F.misses files.old files.new }
@@ -71,8 +69,8 @@ fn file_text<F: Files>(
     path: &str,
     max_bytes: usize,
 ) -> Result<Option<Vec<u8>>, RepoFault>
-    ensures text { (folder : Folder) → F.folder files.old ≡ Some folder →
-        Gives (option_map (λ text. text.items)) result (sized_at folder max_bytes path.now) }
+    ensures text { HasReadFiles (F.folder files.old) (λ folder.
+        Gives (option_map (λ text. text.items)) result (sized_at folder max_bytes path.now)) }
     ensures cause { IfErr result (λ e. HasCause e (F.misses files.old) (F.misses files.new)
         (F.faults files.old) (F.faults files.new) (F.at files.new)) }
     ensures kept { KeepsFiles F.folder F.faults F.misses files.old files.new }

@@ -1,8 +1,8 @@
 //! The tags of a theory file that name packages.
-ghost use Rattle.std.specs.Prelude.{◌≡◌, ℕ, List, Some, true, map, codes, reverse, IfOk, IfErr, string_bytes};
+ghost use Rattle.std.specs.Prelude.{◌≡◌, ℕ, List, true, map, codes, reverse, IfOk, IfErr, string_bytes};
 ghost use Rattle.std.specs.List.{filter};
 ghost use Rattle.std.specs.Str.{bytes_eq};
-ghost use Rattle.ot_io.specs.Folder.{Folder};
+ghost use Rattle.ot_io.specs.Readings.{HasReadFiles};
 ghost use Rattle.ot_io.specs.Keeping.{KeepsFiles};
 ghost use Rattle.ot_theory.specs.Answers.{tag_of, tags_of};
 ghost use Rattle.ot_blocks.specs.Paths.{is_package, package_path};
@@ -88,9 +88,9 @@ pub(crate) fn package_file<'a, F: Files>(
 ) -> Result<File<'a>, RepoFault>
     requires index { IsIndex index.now }
     requires full { is_package full.now ≡ true }
-    ensures edges { (folder : Folder) → F.folder files.old ≡ Some folder → Gives edges_left result
+    ensures edges { HasReadFiles (F.folder files.old) (λ folder. Gives edges_left result
         (edges_of folder setting.entry.max_bytes setting.entry.packages.now
-        (listed_in index.now) full.now) }
+        (listed_in index.now) full.now)) }
     ensures listed { IfOk result (λ file. AreListed (listed_in index.now) file.left.items) }
     ensures cause { IfErr result (λ e. HasCause e (F.misses files.old) (F.misses files.new)
         (F.faults files.old) (F.faults files.new) (F.at files.new)) }

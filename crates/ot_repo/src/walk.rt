@@ -1,13 +1,13 @@
 //! The walk over required packages.
-ghost use Rattle.std.specs.Prelude.{◌≡◌, ℕ, List, Some, length, IfOk, IfErr, IfSome};
+ghost use Rattle.std.specs.Prelude.{◌≡◌, Some, length, IfOk, IfErr, IfSome};
 ghost use Rattle.std.specs.Option.{option_map};
 ghost use Rattle.std.specs.Str.{bytes_eq};
 ghost use Rattle.std.specs.String.{string_bytes};
-ghost use Rattle.ot_io.specs.Folder.{Folder};
+ghost use Rattle.ot_io.specs.Readings.{HasReadFiles};
 ghost use Rattle.ot_io.specs.Keeping.{KeepsFiles};
 ghost use Rattle.ot_repo.specs.Walk.{walk_from};
 ghost use Rattle.ot_repo.specs.Required.{edges_of, walked};
-ghost use Rattle.ot_repo.specs.Answers.{ArePackages, FailsAt, Gives, names_of, HasCause, IsInside};
+ghost use Rattle.ot_repo.specs.Answers.{ArePackages, Gives, IsAnswer, names_of, HasCause, IsInside};
 ghost use Rattle.ot_repo.specs.Reading.{listed_in, IsIndex, IsReachedFile, edge_at};
 ghost use Rattle.ot_repo.specs.Reading.{edges_left, AreListed, mark_in, next_at};
 
@@ -43,17 +43,14 @@ pub(crate) fn walk<'a, F: Files>(
 ) -> Result<Vec<String>, RepoFault>
     requires index { IsIndex index.now }
     requires first { AreListed (listed_in index.now) first.left.items }
-    ensures order { (folder : Folder) → F.folder files.old ≡ Some folder
-        → Gives names_of result (walked (walk_from bytes_eq
-        (edges_of folder setting.entry.max_bytes setting.entry.packages.now (listed_in index.now))
-        (length (listed_in index.now)) (edges_left first.entry))) }
+    ensures order { HasReadFiles (F.folder files.old) (λ folder.
+        let edges = edges_of folder setting.entry.max_bytes setting.entry.packages.now (listed_in index.now) in
+        IsAnswer names_of (IsReachedFile edges (edges_left first.entry) setting.entry.packages.now) result
+        (walked (walk_from bytes_eq edges (length (listed_in index.now)) (edges_left first.entry)))) }
     ensures full { IfOk result (λ names. ArePackages (names_of names)) }
     ensures cause { IfErr result (λ e. HasCause e (F.misses files.old) (F.misses files.new)
         (F.faults files.old) (F.faults files.new) (F.at files.new)) }
     ensures kept { KeepsFiles F.folder F.faults F.misses files.old files.new }
-    ensures failure { (folder : Folder) → F.folder files.old ≡ Some folder → IfErr result (FailsAt (IsReachedFile
-        (edges_of folder setting.entry.max_bytes setting.entry.packages.now (listed_in index.now))
-        (edges_left first.entry) setting.entry.packages.now)) }
 {
     let alloc = setting.alloc;
     let mut marks: HashMap<&'a [u8], Mark> = HashMap::new(alloc);

@@ -1,5 +1,7 @@
 //! The lines of articles, and their words.
-use ot_io::MemSource;
+ghost use Rattle.std.specs.Prelude.{[], Some, None};
+
+use ot_io::{Failed, MemSource, Source};
 use ot_logic::Cmd;
 use ot_scan::{Line, Lines, ScanFault, Word, WordFault, command};
 use std::alloc::Global;
@@ -56,9 +58,9 @@ const ROWS: &[(&[u8], u64, &[(u64, &[u8])], Result<(), ScanFault>)] = &[
 ];
 
 /// Reads on after the end too.
-fn check_lines(
+fn check_lines<S: Source>(
     rt: &impl Abort,
-    source: &mut MemSource,
+    source: &mut S,
     max_bytes: u64,
     wanted: &[(u64, &[u8])],
     end: Result<(), ScanFault>,
@@ -89,6 +91,43 @@ fn lines_in_pieces_of_any_size(rt: HostRuntime) -> Result<(), Fail> {
             check_lines(&rt, &mut source, max_bytes, wanted, end);
         }
     }
+    Ok(())
+}
+
+/// A terminal: an end is typed, and a line behind it. What will be typed isn't known.
+#[derive(Drop)]
+struct Terminal {
+    reads: u8,
+}
+
+impl Source for Terminal {
+    ghost left = { λ _. None };
+
+    ghost faults = { λ _. 0 };
+
+    ghost folder = { λ _. Some [] };
+
+    ghost misses = { λ _. 0 };
+
+    ghost at = { λ _. None };
+
+    fn read(&mut self, buf: &mut [u8]) -> Result<usize, Failed> {
+        let piece: &[u8] = match self.reads {
+            0 => b"nil",
+            2 => b"pop\n",
+            _ => b"",
+        };
+        self.reads = self.reads.saturating_add(1);
+        let count = piece.len().min(buf.len());
+        buf[..count].copy_from_slice(&piece[..count]);
+        Ok(count)
+    }
+}
+
+#[test]
+fn nothing_is_read_behind_an_end(rt: HostRuntime) -> Result<(), Fail> {
+    let mut terminal = Terminal { reads: 0 };
+    check_lines(&rt, &mut terminal, 100, &[(1, b"nil")], Ok(()));
     Ok(())
 }
 

@@ -1,14 +1,16 @@
 -- Laws of the lines to come.
 use Rattle.std.proofs.Common.{◌≡◌, ◌<◌, ◌≤◌, ◌+◌, inl, inr, ℕ, true, false, cond, List, [], ◌∷◌, ◌++◌}
 use Rattle.std.proofs.Common.{length, take, drop, append_assoc, sym, ap, subst, ◌∙◌, arith}
-use Rattle.std.specs.Prelude.{Option, Some, None, Err, IfSome}
+use Rattle.std.specs.Prelude.{Bool, Option, Some, None, Err}
 use Rattle.std.proofs.lemmas.List.{length-take-le, take_all}
 use Rattle.ot_lines.specs.Pieces.{IsOpenTo, pieces, text_of, is_skipped}
 use Rattle.ot_lines.proofs.Pieces.{before_first, pieces_open, first-ends, first-all}
 use Rattle.ot_logic.specs.Faults.{Fault, LineTooLong, ArticleTooLong}
 use Rattle.ot_logic.specs.Names.{Name}
 use Rattle.ot_scan.specs.Lines.{Scan, Broken, Next, limit_fault, with_piece, lines_after, lines_to_come}
-use Rattle.ot_scan.specs.Reading.{Reads, IsFirst, KeepsLines, AreToCome, Finds, ChecksLimits, taken}
+use Rattle.ot_io.specs.Reading.{MayFollow}
+use Rattle.ot_io.proofs.Reading.{Reads-then, Reads-none}
+use Rattle.ot_scan.specs.Reading.{Fills, IsFirst, KeepsLines, AreToCome, Finds, ChecksLimits, taken}
 use Rattle.ot_scan.specs.declared.fault.ScanFault.{ScanFault}
 use Rattle.ot_scan.specs.declared.fault.ScanFault.TheVariants as code
 use Rattle.ot_scan.proofs.Limits.{limit-front, limit-found}
@@ -17,36 +19,37 @@ use Rattle.ot_scan.proofs.Limits.{limit-front, limit-found}
 
 pub keeps-more : (old mid new : Scan) (left left' left'' : Option (List ℕ)) → KeepsLines old mid left left'
     → KeepsLines mid new left' left'' → KeepsLines old new left left''
-keeps-more old mid new None left' left'' p q = tt
-keeps-more old mid new (Some bs) None left'' p q = absurd p
-keeps-more old mid new (Some bs) (Some cs) None p q = absurd q
-keeps-more old mid new (Some bs) (Some cs) (Some ds) p q = q ∙ p
+keeps-more old mid new left left' left'' p q =
+    Reads-then old.ended mid.ended new.ended left left' left'' _ _ _ (λ x y z e f. f ∙ e) p q
 
 -- what was read changes no line
-pub keeps-reads : (old new : Scan) (left left' : Option (List ℕ)) → Reads old new left left'
+pub keeps-fills : (old new : Scan) (left left' : Option (List ℕ)) → Fills old new left left'
     → KeepsLines old new left left'
-keeps-reads old new None left' r = tt
-keeps-reads old new (Some bs) None r = absurd r.lost
-keeps-reads old new (Some bs) (Some cs) r =
-    ap (λ s. lines_to_come s cs) r.held
-    ∙ ap (λ z. lines_after old.max old.before old.number (pieces z))
-    (append_assoc old.held r.bytes cs ∙ sym (ap (λ z. old.held ++ z) r.lost))
+keeps-fills old new left left' r = record {
+  read = r.bytes;
+  lost = r.lost;
+  stays = r.stays;
+  end = r.end;
+  holds = λ rest may.
+      ap (λ s. lines_to_come s rest) r.held
+      ∙ ap (λ z. lines_after old.max old.before old.number (pieces z)) (append_assoc old.held r.bytes rest);
+}
 
 -- ---- the first piece
 
 -- the first piece, where it keeps the limits
-first-within : (max before len : ℕ) (held rest : List ℕ) → IsFirst len held (Some rest) → 0 < len
-    → limit_fault max before (take len held) ≡ None → pieces (held ++ rest) ≡ take len held
+first-within : (max before len : ℕ) (held rest : List ℕ) (ended : Bool) → MayFollow ended rest
+    → IsFirst len held ended → 0 < len → limit_fault max before (take len held) ≡ None → pieces (held ++ rest) ≡ take len held
     ∷ pieces (drop len held ++ rest)
-first-within max before len held rest first some within = elim first.cut [
+first-within max before len held rest ended may first some within = elim first.cut [
   | inl h ↦ first-ends len held rest h
-  | inr h ↦ elim h.ended [
+  | inr h ↦ elim h.stop [
     | inl full ↦
         absurd (limit-found max before held (omega (arith, full, h.all))
         (λ k l. h.open_to k (omega (arith, l, h.all)))
         (ap (limit_fault max before) (sym (take_all len held (omega (arith, h.all)))) ∙ within))
-    | inr end ↦ ap (λ z. pieces (held ++ z)) end ∙ first-all len held some h.all h.open_to
-        ∙ ap (λ z. take len held ∷ pieces (drop len held ++ z)) (sym end)
+    | inr end ↦ ap (λ z. pieces (held ++ z)) (may end) ∙ first-all len held some h.all h.open_to
+        ∙ ap (λ z. take len held ∷ pieces (drop len held ++ z)) (sym (may end))
   ]
 ]
 
@@ -65,16 +68,17 @@ breaks-onto max before held rest fault long none e [] cut = record { piece = hel
 breaks-onto max before held rest fault long none e (p ∷ ps) cut =
     record { piece = held ++ p; rest = ps; cut = cut; fault = limit-front max before held p long none ∙ e }
 
-first-breaks : (max before len : ℕ) (held rest : List ℕ) (fault : Fault Name) → IsFirst len held (Some rest) → 0 < len
+first-breaks : (max before len : ℕ) (held rest : List ℕ) (ended : Bool) (fault : Fault Name) → MayFollow ended rest
+    → IsFirst len held ended → 0 < len
     → limit_fault max before (take len held) ≡ Some fault → Breaks max before (held ++ rest) fault
-first-breaks max before len held rest fault first some e = elim first.cut [
+first-breaks max before len held rest ended fault may first some e = elim first.cut [
   | inl h ↦ record {
     piece = take len held;
     rest = pieces (drop len held ++ rest);
     cut = first-ends len held rest h;
     fault = e;
   }
-  | inr h ↦ elim h.ended [
+  | inr h ↦ elim h.stop [
     | inl full ↦
         let none : IsOpenTo (length held) held = λ k l. h.open_to k (omega (arith, l, h.all)) in
         breaks-onto max before held rest fault (omega (arith, full, h.all)) none
@@ -83,8 +87,8 @@ first-breaks max before len held rest fault first some e = elim first.cut [
     | inr end ↦ record {
       piece = take len held;
       rest = pieces (drop len held ++ rest);
-      cut = ap (λ z. pieces (held ++ z)) end ∙ first-all len held some h.all h.open_to
-          ∙ ap (λ z. take len held ∷ pieces (drop len held ++ z)) (sym end);
+      cut = ap (λ z. pieces (held ++ z)) (may end) ∙ first-all len held some h.all h.open_to
+          ∙ ap (λ z. take len held ∷ pieces (drop len held ++ z)) (sym (may end));
       fault = e;
     }
   ]
@@ -92,13 +96,14 @@ first-breaks max before len held rest fault first some e = elim first.cut [
 
 -- ---- the lines to come, by the first piece
 
-to_come-first : (scan : Scan) (len : ℕ) (rest : List ℕ) → IsFirst len scan.held (Some rest) → 0 < len
+to_come-first : (scan : Scan) (len : ℕ) → IsFirst len scan.held scan.ended → 0 < len
     → limit_fault scan.max scan.before (take len scan.held) ≡ None
-    → lines_to_come scan rest ≡ cond (is_skipped (text_of (take len scan.held))) (lines_to_come (taken len scan) rest)
-    (Next (scan.number + 1) (text_of (take len scan.held)) (lines_to_come (taken len scan) rest))
-to_come-first scan len rest first some within =
+    → AreToCome scan (λ rest. cond (is_skipped (text_of (take len scan.held))) (lines_to_come (taken len scan) rest)
+    (Next (scan.number + 1) (text_of (take len scan.held)) (lines_to_come (taken len scan) rest)))
+to_come-first scan len first some within =
+    λ rest may.
     ap (lines_after scan.max scan.before scan.number)
-    (first-within scan.max scan.before len scan.held rest first some within)
+    (first-within scan.max scan.before len scan.held rest scan.ended may first some within)
     ∙ ap (λ f. with_piece (scan.number + 1) (text_of (take len scan.held)) f
     (lines_after scan.max (scan.before + length (take len scan.held)) (scan.number + 1)
     (pieces (drop len scan.held ++ rest)))) within
@@ -107,44 +112,43 @@ to_come-first scan len rest first some within =
     (length-take-le len scan.held first.within)
 
 -- a line that holds no command
-pub keeps-skipped : (scan : Scan) (len : ℕ) (left : Option (List ℕ)) → IsFirst len scan.held left → 0 < len
+pub keeps-skipped : (scan : Scan) (len : ℕ) (left : Option (List ℕ)) → IsFirst len scan.held scan.ended → 0 < len
     → limit_fault scan.max scan.before (take len scan.held) ≡ None → is_skipped (text_of (take len scan.held)) ≡ true
     → KeepsLines scan (taken len scan) left left
-keeps-skipped scan len None first some within skipped = tt
-keeps-skipped scan len (Some rest) first some within skipped =
-    sym (to_come-first scan len rest first some within
+keeps-skipped scan len left first some within skipped = Reads-none scan.ended left _ (λ rest may.
+    sym (to_come-first scan len first some within rest may
     ∙ ap (λ b. cond b (lines_to_come (taken len scan) rest)
-    (Next (scan.number + 1) (text_of (take len scan.held)) (lines_to_come (taken len scan) rest))) skipped)
+    (Next (scan.number + 1) (text_of (take len scan.held)) (lines_to_come (taken len scan) rest))) skipped))
 
 -- a line that holds one
-pub next-found : (scan : Scan) (len : ℕ) (left : Option (List ℕ)) → IsFirst len scan.held left → 0 < len
+pub next-found : (scan : Scan) (len : ℕ) → IsFirst len scan.held scan.ended → 0 < len
     → limit_fault scan.max scan.before (take len scan.held) ≡ None → is_skipped (text_of (take len scan.held)) ≡ false
-    → IfSome left (λ rest. lines_to_come scan rest ≡ Next (scan.number + 1) (text_of (take len scan.held))
+    → AreToCome scan (λ rest. Next (scan.number + 1) (text_of (take len scan.held))
     (lines_to_come (taken len scan) rest))
-next-found scan len None first some within holds = tt
-next-found scan len (Some rest) first some within holds =
-    to_come-first scan len rest first some within
+next-found scan len first some within holds =
+    λ rest may.
+    to_come-first scan len first some within rest may
     ∙ ap (λ b. cond b (lines_to_come (taken len scan) rest)
     (Next (scan.number + 1) (text_of (take len scan.held)) (lines_to_come (taken len scan) rest))) holds
 
 -- a line past a limit
-pub broken-found : (scan : Scan) (len : ℕ) (left : Option (List ℕ)) (fault : Fault Name) → IsFirst len scan.held left
-    → 0 < len → limit_fault scan.max scan.before (take len scan.held) ≡ Some fault
-    → AreToCome (Broken (scan.number + 1) fault) scan left
-broken-found scan len None fault first some e = tt
-broken-found scan len (Some rest) fault first some e =
-    let b = first-breaks scan.max scan.before len scan.held rest fault first some e in
+pub broken-found : (scan : Scan) (len : ℕ) (fault : Fault Name) → IsFirst len scan.held scan.ended → 0 < len
+    → limit_fault scan.max scan.before (take len scan.held) ≡ Some fault
+    → AreToCome scan (λ rest. Broken (scan.number + 1) fault)
+broken-found scan len fault first some e =
+    λ rest may.
+    let b = first-breaks scan.max scan.before len scan.held rest scan.ended fault may first some e in
     ap (lines_after scan.max scan.before scan.number) b.cut
     ∙ ap (λ f. with_piece (scan.number + 1) (text_of b.piece) f
     (lines_after scan.max (scan.before + length b.piece) (scan.number + 1) b.rest)) b.fault
 
-pub stop-found : (scan : Scan) (len : ℕ) (left : Option (List ℕ)) (fault : ScanFault) → IsFirst len scan.held left
-    → 0 < len → ChecksLimits (Err fault) (scan.number + 1) (limit_fault scan.max scan.before (take len scan.held))
-    → Finds (Err fault) scan left
-stop-found scan len left (code.LineTooLong number) first some h =
-    subst (λ n. AreToCome (Broken n LineTooLong) scan left) (sym h.0)
-    (broken-found scan len left LineTooLong first some h.1)
-stop-found scan len left (code.ArticleTooLong number) first some h =
-    subst (λ n. AreToCome (Broken n ArticleTooLong) scan left) (sym h.0)
-    (broken-found scan len left ArticleTooLong first some h.1)
-stop-found scan len left code.ReadFault first some h = absurd h
+pub stop-found : (scan : Scan) (len : ℕ) (fault : ScanFault) → IsFirst len scan.held scan.ended → 0 < len
+    → ChecksLimits (Err fault) (scan.number + 1) (limit_fault scan.max scan.before (take len scan.held))
+    → Finds (Err fault) scan
+stop-found scan len (code.LineTooLong number) first some h =
+    subst (λ n. AreToCome scan (λ rest. Broken n LineTooLong)) (sym h.0)
+    (broken-found scan len LineTooLong first some h.1)
+stop-found scan len (code.ArticleTooLong number) first some h =
+    subst (λ n. AreToCome scan (λ rest. Broken n ArticleTooLong)) (sym h.0)
+    (broken-found scan len ArticleTooLong first some h.1)
+stop-found scan len code.ReadFault first some h = absurd h

@@ -42,7 +42,7 @@ reverse-member x (b ∷ bs) m =
       | inr k ↦ elim k [ inl e ↦ inl e | inr z ↦ absurd z ]
     ]
 
-last-member : (x y : ℕ) (xs : List ℕ) → IsMember x (without_last y xs) → IsMember x xs
+pub last-member : (x y : ℕ) (xs : List ℕ) → IsMember x (without_last y xs) → IsMember x xs
 last-member x y [] m = m
 last-member x y (b ∷ []) m = elim (eqb_tells b y) [
   | inl q ↦ absurd (subst (λ (z : Bool). IsMember x (cond z [] (b ∷ []))) q.0 m)
@@ -50,7 +50,7 @@ last-member x y (b ∷ []) m = elim (eqb_tells b y) [
 ]
 last-member x y (b ∷ c ∷ cs) m = elim m [ inl e ↦ inl e | inr k ↦ inr (last-member x y (c ∷ cs) k) ]
 
-text-shorter : (piece : List ℕ) → length (text_of piece) ≤ length (without_last 10 piece)
+pub text-shorter : (piece : List ℕ) → length (text_of piece) ≤ length (without_last 10 piece)
 text-shorter piece =
     let line = without_last 13 (without_last 10 piece) in
     omega (
@@ -62,7 +62,7 @@ text-shorter piece =
       length-without_last_le 13 (without_last 10 piece),
     )
 
-text-member : (x : ℕ) (piece : List ℕ) → IsMember x (text_of piece) → IsMember x (without_last 10 piece)
+pub text-member : (x : ℕ) (piece : List ℕ) → IsMember x (text_of piece) → IsMember x (without_last 10 piece)
 text-member x piece m =
     let line = without_last 13 (without_last 10 piece) in
     last-member x 13 (without_last 10 piece)
@@ -85,25 +85,25 @@ none-before (b ∷ c ∷ cs) h m = elim m [
 ]
 
 -- none of its bytes but the last is a newline
-open-first : (len : ℕ) (held : List ℕ) (left : Option (List ℕ)) → IsFirst len held left → (k : ℕ) → suc k < len
+open-first : (len : ℕ) (held : List ℕ) (left : Bool) → IsFirst len held left → (k : ℕ) → suc k < len
     → get_or held k 0 ≢ 10
 open-first len held left first k l = elim first.cut [
   | inl h ↦ h.open_before k (omega (arith, l))
   | inr h ↦ h.open_to k (omega (arith, l))
 ]
 
-not-long : (max before : ℕ) (piece : List ℕ) → limit_fault max before piece ≡ None → ¬ (IsLong piece)
+pub not-long : (max before : ℕ) (piece : List ℕ) → limit_fault max before piece ≡ None → ¬ (IsLong piece)
 not-long max before piece e = elim (names_limit max before piece) [
   | inl h ↦ h.1
   | inr h ↦ elim h [ inl a ↦ absurd (cc (a.0, e)) | inr a ↦ absurd (cc (a.0, e)) ]
 ]
 
-short-piece : (piece : List ℕ) → ¬ (IsLong piece) → length (without_last 10 piece) ≤ 65535
+pub short-piece : (piece : List ℕ) → ¬ (IsLong piece) → length (without_last 10 piece) ≤ 65535
 short-piece piece n =
     elim (leb_tells 65536 (length (without_last 10 piece))) [ inl l ↦ absurd (n l.1) | inr l ↦ omega (arith, l.1) ]
 
 -- so a line can hold its text
-pub line-fits : (max before len : ℕ) (held : List ℕ) (left : Option (List ℕ)) → IsFirst len held left
+pub line-fits : (max before len : ℕ) (held : List ℕ) (left : Bool) → IsFirst len held left
     → limit_fault max before (take len held) ≡ None → IsLineText (text_of (take len held))
 line-fits max before len held left first limits =
     let piece = take len held in

@@ -1,6 +1,6 @@
 -- Laws of the part of an array that is held.
 use Rattle.std.proofs.Common.{◌≡◌, ◌≤◌, ◌+◌, ◌-◌, ℕ, List, [], ◌++◌, length}
-use Rattle.std.proofs.Common.{take, drop, ap, sym, ◌∙◌, arith, length-drop}
+use Rattle.std.proofs.Common.{Bool, take, drop, ap, sym, ◌∙◌, arith, length-drop}
 use Rattle.std.specs.List.{copy_within}
 use Rattle.std.proofs.Math.Seq.{take-append-add}
 use Rattle.std.proofs.lemmas.List.{take-take, take-append-le, drop-take, drop-drop, length-take, length-take-le}
@@ -33,14 +33,15 @@ part-front buffer start end len le =
 length-part : (buffer : List ℕ) (start end : ℕ) → length (part start end buffer) ≤ end - start
 length-part buffer start end = omega (arith, length-take (end - start) (drop start buffer))
 
-length-part_is : (buffer : List ℕ) (start end : ℕ) → start ≤ end → end ≤ length buffer
+pub length-part_is : (buffer : List ℕ) (start end : ℕ) → start ≤ end → end ≤ length buffer
     → length (part start end buffer) ≡ end - start
 length-part_is buffer start end le inside =
     length-take-le (end - start) (drop start buffer) (omega (arith, le, inside, length-drop start buffer))
 
 -- what is lent where the first len bytes are taken, and what is known then
-pub part-taken : (scan : Scan) (buffer : List ℕ) (max start end limit number len : ℕ)
-    → record { max = max; held = part start end buffer; before = max - (limit - start); number = number } ≡ scan
+pub part-taken : (scan : Scan) (buffer : List ℕ) (max start end limit number len : ℕ) (ended : Bool)
+    → record { max = max; held = part start end buffer; before = max - (limit - start); number = number; ended = ended }
+    ≡ scan
     → IsScanner start end limit number max → len ≤ length scan.held → scan.before + len ≤ scan.max
     → (part start (start + len) buffer ≡ take len scan.held)
     × (record {
@@ -48,8 +49,9 @@ pub part-taken : (scan : Scan) (buffer : List ℕ) (max start end limit number l
       held = part (start + len) end buffer;
       before = max - (limit - (start + len));
       number = number + 1;
+      ended = ended;
     } ≡ taken len scan)
-part-taken scan buffer max start end limit number len is fields le few =
+part-taken scan buffer max start end limit number len ended is fields le few =
     let fits : start + len ≤ end =
     omega (arith, fields.ordered, le, length-part buffer start end, ap (λ (s : Scan). length s.held) is) in
     let room : max - (limit - start) + len ≤ max =
@@ -57,8 +59,8 @@ part-taken scan buffer max start end limit number len is fields le few =
     let moved : max - (limit - (start + len)) ≡ max - (limit - start) + len =
     omega (arith, room, fields.placed, fields.limited) in (
       part-front buffer start end len fits ∙ ap (λ (s : Scan). take len s.held) is,
-      ap (λ b. record { max = max; held = part (start + len) end buffer; before = b; number = number + 1 }) moved
-          ∙ ap (λ h. record { max = max; held = h; before = max - (limit - start) + len; number = number + 1 })
+      ap (λ b. record { max = max; held = part (start + len) end buffer; before = b; number = number + 1; ended = ended }) moved
+          ∙ ap (λ h. record { max = max; held = h; before = max - (limit - start) + len; number = number + 1; ended = ended })
           (part-rest buffer start end len fits) ∙ ap (taken len) is,
     )
 

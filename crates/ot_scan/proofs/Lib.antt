@@ -5,3 +5,4 @@ pub mod Taking
 pub mod Held
 pub mod Coming
 pub mod Fitting
+pub mod AllFit

@@ -1,7 +1,8 @@
 -- The lines of an article.
 use Rattle.std.specs.Prelude.{◌≡◌, ◌<◌, ◌≤◌, ◌+◌, ℕ, ◌⊎◌, if◌then◌else◌, nat_lt, nat_le, List, [], ◌∷◌}
-use Rattle.std.specs.Prelude.{◌++◌, length, Option, Some, None, Result, Ok, Err, IfOk, IfSome, IfNone}
+use Rattle.std.specs.Prelude.{◌++◌, length, Bool, true, Option, Some, None, Result, Ok, Err, IfOk, IfSome, IfNone}
 use Rattle.ot_io.specs.Causes.{CountRose}
+use Rattle.ot_io.specs.Reading.{Reads}
 use Rattle.ot_lines.specs.Pieces.{pieces, without_last, text_of, is_skipped}
 use Rattle.ot_logic.specs.Lists.{IsMember}
 use Rattle.ot_logic.specs.Faults.{Fault, LineTooLong, ArticleTooLong}
@@ -65,12 +66,13 @@ pub record IsLineText (text : List ℕ) : Type 0 where
 -- ---- the lines to come
 
 -- what is known of an article in the midst of its lines: its limit, the bytes that are held and that no line took
--- yet, and how many bytes and lines of it came before them
+-- yet, how many bytes and lines of it came before them, and whether its end was seen, behind which nothing is read
 pub record Scan : Type 0 where
   pub max : ℕ
   pub held : List ℕ
   pub before : ℕ
   pub number : ℕ
+  pub ended : Bool
 
 -- the lines to come: those of the bytes that are held, followed by those that are left
 abbrev pub lines_to_come : Scan → List ℕ → Lines
@@ -86,17 +88,13 @@ TakesLine (Err (code.LineTooLong number)) old new = (old ≡ Broken number LineT
 TakesLine (Err (code.ArticleTooLong number)) old new = (old ≡ Broken number ArticleTooLong) × (new ≡ old)
 TakesLine (Err code.ReadFault) old new = new ≡ old
 
--- the next line was taken of these bytes that are held and left; at the end there is no byte more
-pub record Takes (result : Result (Option Line) ScanFault) (old : Scan) (left : List ℕ) (new : Scan)
-    (left' : List ℕ) : Type 0 where
-  pub line : TakesLine result (lines_to_come old left) (lines_to_come new left')
-  pub end : IfOk result (λ o. IfNone o ((new.held ≡ []) × (left' ≡ [])))
-
--- the next line was taken, where the source's bytes are known; then those that are left are known too
-abbrev pub TakesFrom : Result (Option Line) ScanFault → Scan → Scan → Option (List ℕ) → Option (List ℕ) → Type 0
-TakesFrom result old new None left' = Unit {0}
-TakesFrom result old new (Some left) None = ⊥
-TakesFrom result old new (Some left) (Some left') = Takes result old left new left'
+-- the next line was taken of the bytes that were held, those that were read in this call, and any that may follow; the
+-- end is answered where it was seen and no byte is held
+pub record TakesFrom (result : Result (Option Line) ScanFault) (old new : Scan) (left left' : Option (List ℕ)) : Type
+    0 where
+  pub line : Reads old.ended new.ended left left'
+      (λ all rest. TakesLine result (lines_to_come old all) (lines_to_come new rest))
+  pub end : IfOk result (λ o. IfNone o ((new.held ≡ []) × (new.ended ≡ true)))
 
 -- a line has a number of its own, greater than those of before, which the limit bounds; also where the source's
 -- bytes aren't known

@@ -1,7 +1,8 @@
 -- How lines are read: the bytes that are held, and the first piece among them.
 use Rattle.std.specs.Prelude.{◌≡◌, ◌<◌, ◌≤◌, ◌+◌, ◌-◌, ◌^◌, ◌⊎◌, ℕ, List, [], ◌++◌, length, take}
-use Rattle.std.specs.Prelude.{drop, false, Option, Some, None, Result, Ok, Err, IfSome}
+use Rattle.std.specs.Prelude.{drop, Bool, true, false, Option, Some, None, Result, Ok, Err}
 use Rattle.std.specs.Io.KnownBytes.{Consumes, IsAtEnd}
+use Rattle.ot_io.specs.Reading.{MayFollow, Reads}
 use Rattle.ot_lines.specs.Pieces.{IsOpenTo, EndsAt, text_of, is_skipped}
 use Rattle.ot_logic.specs.Faults.{Fault, LineTooLong, ArticleTooLong}
 use Rattle.ot_logic.specs.Names.{Name}
@@ -21,67 +22,68 @@ pub record IsScanner (start end limit number max : ℕ) : Type 0 where
 
 -- ---- reading more
 
--- what the source lost is held behind the bytes of before, and nothing else changed
-pub record Reads (old new : Scan) (left left' : Option (List ℕ)) : Type 0 where
+-- what was read is held behind the bytes of before, and nothing else changed but whether the end was seen
+pub record Fills (old new : Scan) (left left' : Option (List ℕ)) : Type 0 where
   pub bytes : List ℕ
   pub lost : Consumes left left' bytes
-  pub held : new ≡ record old { held = old.held ++ bytes }
+  pub held : new ≡ record old { held = old.held ++ bytes; ended = new.ended }
+  pub stays : old.ended ≡ true → (new.ended ≡ true) × (bytes ≡ [])
+  pub end : (old.ended ≡ true → IsAtEnd left) → new.ended ≡ true → IsAtEnd left'
 
 -- ---- the first piece
 
 -- all the bytes that are held, without a newline: there is no room for more, or none is left
-pub record IsUnended (len : ℕ) (held : List ℕ) (left : Option (List ℕ)) : Type 0 where
+pub record IsUnended (len : ℕ) (held : List ℕ) (ended : Bool) : Type 0 where
   pub all : length held ≡ len
   pub open_to : IsOpenTo len held
-  pub ended : (65536 ≤ len) ⊎ IsAtEnd left
+  pub stop : (65536 ≤ len) ⊎ (ended ≡ true)
 
 -- the first piece, or its first bytes where it has more than are held, or nothing at the end
-pub record IsFirst (len : ℕ) (held : List ℕ) (left : Option (List ℕ)) : Type 0 where
+pub record IsFirst (len : ℕ) (held : List ℕ) (ended : Bool) : Type 0 where
   pub within : len ≤ length held
-  pub cut : EndsAt len held ⊎ IsUnended len held left
+  pub cut : EndsAt len held ⊎ IsUnended len held ended
 
 -- ---- lines that hold no command
 
 -- after a line of this length
 abbrev pub taken : ℕ → Scan → Scan
 taken len scan =
-    record { max = scan.max; held = drop len scan.held; before = scan.before + len; number = scan.number + 1 }
+    record scan { held = drop len scan.held; before = scan.before + len; number = scan.number + 1 }
 
 -- the lines to come are the same
 abbrev pub KeepsLines : Scan → Scan → Option (List ℕ) → Option (List ℕ) → Type 0
-KeepsLines old new None left' = Unit {0}
-KeepsLines old new (Some left) None = ⊥
-KeepsLines old new (Some left) (Some left') = lines_to_come new left' ≡ lines_to_come old left
+KeepsLines old new left left' =
+    Reads old.ended new.ended left left' (λ all rest. lines_to_come new rest ≡ lines_to_come old all)
 
 -- the limit stays, and the number of lines doesn't fall
 pub record GoesOn (old new : Scan) : Type 0 where
   pub max : new.max ≡ old.max
   pub number : old.number ≤ new.number
 
--- these are the lines to come, where the source's bytes are known
-abbrev pub AreToCome : Lines → Scan → Option (List ℕ) → Type 0
-AreToCome lines scan left = IfSome left (λ bytes. lines_to_come scan bytes ≡ lines)
+-- these are the lines to come, whatever may follow
+abbrev pub AreToCome : Scan → (List ℕ → Lines) → Type 0
+AreToCome scan lines = (rest : List ℕ) → MayFollow scan.ended rest → lines_to_come scan rest ≡ lines rest
 
 -- of the bytes that are held the first so many are a line that keeps the limits and holds a command
-pub record IsCommandLine (len : ℕ) (scan : Scan) (left : Option (List ℕ)) : Type 0 where
+pub record IsCommandLine (len : ℕ) (scan : Scan) : Type 0 where
   pub within : len ≤ length scan.held
   pub limited : scan.before + len ≤ scan.max
   pub holds : is_skipped (text_of (take len scan.held)) ≡ false
   pub fits : IsLineText (text_of (take len scan.held))
-  pub next : IfSome left (λ bytes. lines_to_come scan bytes ≡ Next (scan.number + 1) (text_of (take len scan.held))
-      (lines_to_come (taken len scan) bytes))
+  pub next : AreToCome scan (λ rest. Next (scan.number + 1) (text_of (take len scan.held))
+      (lines_to_come (taken len scan) rest))
 
 -- the length of the next line that holds a command, or 0 at the end
-pub record FindsLine (len : ℕ) (scan : Scan) (left : Option (List ℕ)) : Type 0 where
-  pub line : 0 < len → IsCommandLine len scan left
-  pub end : len ≡ 0 → (scan.held ≡ []) × IsAtEnd left
+pub record FindsLine (len : ℕ) (scan : Scan) : Type 0 where
+  pub line : 0 < len → IsCommandLine len scan
+  pub end : len ≡ 0 → (scan.held ≡ []) × (scan.ended ≡ true)
 
 -- the next line that holds a command was found, or what stops the lines
-abbrev pub Finds : Result ℕ ScanFault → Scan → Option (List ℕ) → Type 0
-Finds (Ok len) scan left = FindsLine len scan left
-Finds (Err (code.LineTooLong number)) scan left = AreToCome (Broken number LineTooLong) scan left
-Finds (Err (code.ArticleTooLong number)) scan left = AreToCome (Broken number ArticleTooLong) scan left
-Finds (Err code.ReadFault) scan left = Unit {0}
+abbrev pub Finds : Result ℕ ScanFault → Scan → Type 0
+Finds (Ok len) scan = FindsLine len scan
+Finds (Err (code.LineTooLong number)) scan = AreToCome scan (λ rest. Broken number LineTooLong)
+Finds (Err (code.ArticleTooLong number)) scan = AreToCome scan (λ rest. Broken number ArticleTooLong)
+Finds (Err code.ReadFault) scan = Unit {0}
 
 -- ---- limits
 

@@ -1,11 +1,10 @@
-ghost use Rattle.std.specs.Prelude.{◌≡◌, ◌<◌, ◌≤◌, ◌+◌, ◌-◌, ◌^◌, [], take, drop, length, OnOk, IfOk, IfErr, IfSome};
+ghost use Rattle.std.specs.Prelude.{◌≡◌, ◌<◌, ◌≤◌, ◌+◌, ◌-◌, ◌^◌, [], true, false, take, drop, length, OnOk, IfOk, IfErr, IfSome};
 ghost use Rattle.std.specs.Borrow.{sem};
 ghost use Rattle.std.specs.Io.BufRead.{Rests};
-ghost use Rattle.std.specs.Io.KnownBytes.{IsAtEnd};
 ghost use Rattle.ot_io.specs.Causes.{HasCause};
 ghost use Rattle.ot_io.specs.Keeping.{KeepsSource};
 ghost use Rattle.ot_scan.specs.Lines.{TakesFrom, Counts, HasReadCause, IsLineText, limit_fault};
-ghost use Rattle.ot_scan.specs.Reading.{Reads, IsFirst, KeepsLines, GoesOn, Finds, ChecksLimits, taken};
+ghost use Rattle.ot_scan.specs.Reading.{Fills, IsFirst, KeepsLines, GoesOn, Finds, ChecksLimits, taken};
 ghost use Rattle.ot_scan.specs.contracts.lines.Lines.{the_row};
 
 use crate::fault::ScanFault;
@@ -38,6 +37,8 @@ pub struct Lines {
     /// Where in the array, or behind it, the last byte ends that the article may have.
     limit: u64,
     number: u64,
+    /// Behind the end that was seen nothing is read, also where the source would give more.
+    ended: bool,
 }
 
 impl Model for Lines {
@@ -52,6 +53,7 @@ impl Model for Lines {
       held = take (l.end - l.start) (drop l.start l.buffer);
       before = l.max_bytes - (l.limit - l.start);
       number = l.number;
+      ended = l.ended;
     } };
 
     ghost invariant = { λ l. IsScanner l.start l.end l.limit l.number l.max_bytes };
@@ -61,7 +63,7 @@ impl Lines {
     /// The lines of an article that has at most `max_bytes` bytes, before the first.
     pub fn new(max_bytes: u64) -> Lines
         requires { max_bytes ≤ 2 ^ 32 }
-        ensures { result ≡ record { max = max_bytes; held = []; before = 0; number = 0 } }
+        ensures { result ≡ record { max = max_bytes; held = []; before = 0; number = 0; ended = false } }
     {
         Lines {
             buffer: [0; CAPACITY],
@@ -70,6 +72,7 @@ impl Lines {
             max_bytes,
             limit: max_bytes,
             number: 0,
+            ended: false,
         }
     }
 
@@ -109,7 +112,7 @@ impl Lines {
     fn pass_skipped<S: Source>(&mut self, source: &mut S) -> Result<usize, ScanFault>
         ensures same_lines { KeepsLines self.old self.new (S.left source.old) (S.left source.new) }
         ensures goes_on { GoesOn self.old self.new }
-        ensures found { Finds result self.new (S.left source.new) }
+        ensures found { Finds result self.new }
 
         ensures cause { IfErr result (λ fault.
             HasReadCause fault (S.faults source.old) (S.faults source.new)) }
@@ -148,8 +151,8 @@ impl Lines {
     /// how many bytes that is: 0 exactly at the end. At a failure what was read before it is held.
     #[inline(always)]
     fn first_piece<S: Source>(&mut self, source: &mut S) -> Result<usize, Failed>
-        ensures read { Reads self.old self.new (S.left source.old) (S.left source.new) }
-        ensures first { IfOk result (λ len. IsFirst len self.new.held (S.left source.new)) }
+        ensures read { Fills self.old self.new (S.left source.old) (S.left source.new) }
+        ensures first { IfOk result (λ len. IsFirst len self.new.held self.new.ended) }
 
         ensures cause { HasCause (S.faults source.old) (S.faults source.new) result }
         ensures kept { KeepsSource S.folder S.faults S.misses S.at source.old source.new }
@@ -163,8 +166,8 @@ impl Lines {
     /// The same, where the first piece may be a long one, or isn't held yet.
     #[inline(never)]
     fn read_piece<S: Source>(&mut self, source: &mut S) -> Result<usize, Failed>
-        ensures read { Reads self.old self.new (S.left source.old) (S.left source.new) }
-        ensures first { IfOk result (λ len. IsFirst len self.new.held (S.left source.new)) }
+        ensures read { Fills self.old self.new (S.left source.old) (S.left source.new) }
+        ensures first { IfOk result (λ len. IsFirst len self.new.held self.new.ended) }
 
         ensures cause { HasCause (S.faults source.old) (S.faults source.new) result }
         ensures kept { KeepsSource S.folder S.faults S.misses S.at source.old source.new }
@@ -185,14 +188,17 @@ impl Lines {
     /// Reads more bytes, and answers how many: none at the end.
     fn read_more<S: Source>(&mut self, source: &mut S) -> Result<usize, Failed>
         requires { length self.old.held < 65536 }
-        ensures read { Reads self.old self.new (S.left source.old) (S.left source.new) }
+        ensures read { Fills self.old self.new (S.left source.old) (S.left source.new) }
         ensures count { IfOk result (λ count.
             length self.new.held ≡ length self.old.held + count) }
-        ensures end { IfOk result (λ count. count ≡ 0 → IsAtEnd (S.left source.new)) }
+        ensures end { IfOk result (λ count. count ≡ 0 → self.new.ended ≡ true) }
 
         ensures cause { HasCause (S.faults source.old) (S.faults source.new) result }
         ensures kept { KeepsSource S.folder S.faults S.misses S.at source.old source.new }
     {
+        if self.ended {
+            return Ok(0);
+        }
         let len = self.end - self.start;
         move_to_front(&mut self.buffer, self.start, self.end);
         self.limit -= self.start as u64;
@@ -200,6 +206,7 @@ impl Lines {
         self.end = len;
         let count = source.read(&mut self.buffer[len..])?;
         self.end += count;
+        self.ended = count == 0;
         Ok(count)
     }
 

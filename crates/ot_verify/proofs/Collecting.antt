@@ -1,17 +1,19 @@
 -- A list that a record asks for, element after element; and two things that are asked for together.
-use Rattle.std.specs.Prelude.{Result, Ok, Err, IsErrAnd, Option, Some, None}
+use Rattle.std.specs.Prelude.{Result, Ok, Err, IsErrAnd, Option}
 use Rattle.std.proofs.Common.{◌≡◌, ℕ, suc, List, [], ◌∷◌, ◌++◌, sym, ap, subst, ◌∙◌, append_assoc, arith}
 use Rattle.std.proofs.lemmas.List.{append-nil}
 use Rattle.ot_logic.specs.Names.{Name}
 use Rattle.ot_logic.specs.Naming.{names}
 use Rattle.ot_records.specs.State.{LogState}
 use Rattle.ot_records.specs.Records.{RecordForm, AskCount, ask_each, ask_list}
-use Rattle.ot_verify.specs.Taking.{Rest, rest}
-use Rattle.ot_verify.specs.Asking.{outcome_in, Answered, AnsweredFrom, IsValue, AreEach, Collects, CollectsFrom}
+use Rattle.ot_verify.specs.Taking.{Rest}
+use Rattle.ot_verify.specs.Asking.{outcome_in, GoesOnWith, StopsWith, AnsweredFrom}
+use Rattle.ot_verify.specs.Asking.{IsValue, AreEach, GoesOnAfter, CollectsFrom}
 use Rattle.ot_verify.specs.Going.{Advances}
 use Rattle.ot_verify.specs.declared.reader.Reader.{Reader}
 use Rattle.ot_verify.specs.declared.fault.VerifyFault.{VerifyFault}
 use Rattle.ot_verify.specs.declared.fault.VerifyFault.TheVariants as verify
+use Rattle.ot_verify.proofs.Tokens.{tokens-then, tokens-map}
 
 -- ---- items, one for one
 module _ {X A : Type 0} where
@@ -29,137 +31,180 @@ module _ {X A : Type 0} where
   each-push is [] (u ∷ ys) x y h e = absurd h
   each-push is (z ∷ xs) [] x y h e = absurd h
 
-module _ {A X : Type 0} (st : LogState Name) (ask : (A → RecordForm names) → RecordForm names) where
+-- ---- what is said of lists, over what is left
+
+module _ {A : Type 0} (st : LogState Name) (ask : (A → RecordForm names) → RecordForm names) where
+  -- with one more
+  goes-after : (us : List A) (y : A) (k : ℕ) (o r s : Rest) → GoesOnAfter st ask us (suc k) o r
+      → GoesOnWith st ask y r s → GoesOnAfter st ask (us ++ y ∷ []) k o s
+  goes-after us y k o r s g h = λ first next.
+      g first next
+      ∙ h first (λ z. ask_each ask k (λ vs. next (us ++ (z ∷ vs))))
+      ∙ ap (λ (f : List A → RecordForm names). outcome_in first st (ask_each ask k f) s)
+      (λ i vs. next (sym (append_assoc us (y ∷ []) vs) i))
+
+  -- an item that was not read
+  stops-after : (f : VerifyFault) (us : List A) (k : ℕ) (o r : Rest) → GoesOnAfter st ask us (suc k) o r
+      → StopsWith st ask f r → StopsWith st (ask_list ask) f o
+  stops-after (verify.At line f) us k o r g h = λ first next.
+      g first next ∙ h first (λ z. ask_each ask k (λ vs. next (us ++ (z ∷ vs))))
+  stops-after verify.ReadFault us k o r g h = tt
+  stops-after verify.Memory us k o r g h = tt
+
+  -- a count that was not read
+  stops-count : (e : VerifyFault) (o : Rest) → StopsWith st AskCount e o → StopsWith st (ask_list ask) e o
+  stops-count (verify.At line f) o h = λ first next. h first (λ k. ask_each ask k next)
+  stops-count verify.ReadFault o h = tt
+  stops-count verify.Memory o h = tt
+
+-- ---- over a source
+
+module _ {A X : Type 0} {st : LogState Name} (ask : (A → RecordForm names) → RecordForm names) where
   -- the count was read
-  pub collects-start : (is : X → A → Type 0) (xs : List X) (n k : ℕ) (old new : Reader) (l m : Option (List ℕ))
-      → xs ≡ [] → n ≡ k → AnsweredFrom st AskCount IsValue (Ok n) old new l m
-      → CollectsFrom st ask is xs k old new l m
-  collects-start is xs n k old new None m none e a = tt
-  collects-start is xs n k old new (Some l) None none e a = a
-  collects-start is xs n k old new (Some l) (Some m) none e a =
-      subst (λ ys. Collects st ask is ys k (rest old l) (rest new m)) (sym none) (
-        [],
-        tt,
-        λ first next. a.2 first (λ i. ask_each ask i next)
-            ∙ ap (λ i. outcome_in first st (ask_each ask i next) (rest new m)) (sym a.1 ∙ e),
-      )
+  pub collects-start : {is : X → A → Type 0} {xs : List X} {n k : ℕ} {old new : Reader} {l m : Option (List ℕ)}
+      → xs ≡ [] → n ≡ k → AnsweredFrom st AskCount IsValue (Ok n) old new l m → CollectsFrom st ask is xs k old new l m
+  collects-start {is = is} none e a =
+      let (j, same, reads) = a.answer in
+      record {
+        items = [];
+        each = subst (λ ys. AreEach is ys []) (sym none) tt;
+        tokens = tokens-map reads
+            (λ o r g. λ first next. g first (λ i. ask_each ask i next)
+            ∙ ap (λ i. outcome_in first st (ask_each ask i next) r) (sym same ∙ e));
+      }
 
-  module _ (is is' : X → A → Type 0) (more : (x : X) (y : A) → is x y → is' x y) where
-    -- one more
-    next-one : (xs : List X) (x : X) (k : ℕ) (o r s : Rest) → Collects st ask is xs (suc k) o r
-        → Answered st ask is' (Ok x) r s
-        → Collects st ask is' (xs ++ x ∷ []) k o s
-    next-one xs x k o r s c a = (
-      c.0 ++ a.0 ∷ [],
-      each-push is' xs c.0 x a.0 (each-more is is' more xs c.0 c.1) a.1,
-      λ first next.
-          c.2 first next
-          ∙ a.2 first (λ y. ask_each ask k (λ us. next (c.0 ++ (y ∷ us))))
-          ∙ ap (λ (f : List A → RecordForm names). outcome_in first st (ask_each ask k f) s)
-          (λ j us. next (sym (append_assoc c.0 (a.0 ∷ []) us) j)),
-    )
-
-    pub collects-next : (now : LogState Name) (xs ys : List X) (x : X) (j k : ℕ) (old mid new : Reader)
-        (l m n : Option (List ℕ))
-        → now ≡ st → ys ≡ xs ++ x ∷ [] → j ≡ suc k → CollectsFrom st ask is xs j old mid l m
-        → AnsweredFrom now ask is' (Ok x) mid new m n
-        → CollectsFrom st ask is' ys k old new l n
-    collects-next now xs ys x j k old mid new None m n same longer e c a = tt
-    collects-next now xs ys x j k old mid new (Some l) None n same longer e c a = absurd c
-    collects-next now xs ys x j k old mid new (Some l) (Some m) None same longer e c a = a
-    collects-next now xs ys x j k old mid new (Some l) (Some m) (Some n) same longer e c a =
-        subst (λ zs. Collects st ask is' zs k (rest old l) (rest new n)) (sym longer)
-        (next-one xs x k (rest old l) (rest mid m) (rest new n)
-        (subst (λ i. Collects st ask is xs i (rest old l) (rest mid m)) e c)
-        (subst (λ s. Answered s ask is' (Ok x) (rest mid m) (rest new n)) same a))
+  -- one more
+  pub collects-next : {is is' : X → A → Type 0} {now : LogState Name} {xs ys : List X} {x : X} {j k : ℕ}
+      {old mid new : Reader} {l m n : Option (List ℕ)}
+      → ((x : X) (y : A) → is x y → is' x y) → now ≡ st → ys ≡ xs ++ x ∷ [] → j ≡ suc k
+      → CollectsFrom st ask is xs j old mid l m → AnsweredFrom now ask is' (Ok x) mid new m n
+      → CollectsFrom st ask is' ys k old new l n
+  collects-next {is = is} {is' = is'} {xs = xs} {x = x} {k = k} more same longer e c a =
+      let (y, found, reads) = a.answer in
+      record {
+        items = c.items ++ y ∷ [];
+        each = subst (λ zs. AreEach is' zs (c.items ++ y ∷ [])) (sym longer)
+            (each-push is' xs c.items x y (each-more is is' more xs c.items c.each) found);
+        tokens = tokens-then c.tokens reads
+            (λ o r s g h. goes-after st ask c.items y k o r s (subst (λ i. GoesOnAfter st ask c.items i o r) e g)
+            (subst (λ t. GoesOnWith t ask y r s) same h));
+      }
 
   -- all of them
-  pub collects-end : {V : Type 0} (is : X → A → Type 0) (items : V → List X) (v : V) (k : ℕ) (old new : Reader)
-      (l m : Option (List ℕ))
-      → k ≡ 0 → CollectsFrom st ask is (items v) k old new l m
+  pub collects-end : {V : Type 0} {is : X → A → Type 0} {k : ℕ} {old new : Reader} {l m : Option (List ℕ)}
+      (items : V → List X) (v : V) → k ≡ 0 → CollectsFrom st ask is (items v) k old new l m
       → AnsweredFrom st (ask_list ask) (λ (v : V). AreEach is (items v)) (Ok v) old new l m
-  collects-end is items v k old new None m e c = tt
-  collects-end is items v k old new (Some l) None e c = c
-  collects-end is items v k old new (Some l) (Some m) e c = (
-    c.0,
-    c.1,
-    λ first next. c.2 first next
-        ∙ ap (λ i. outcome_in first st (ask_each ask i (λ us. next (c.0 ++ us))) (rest new m)) e
-        ∙ ap (λ ys. outcome_in first st (next ys) (rest new m)) (append-nil c.0),
-  )
+  collects-end items v e c = record {
+    answer = (
+      c.items,
+      c.each,
+      tokens-map c.tokens (λ o r g. λ first next. g first next
+          ∙ ap (λ i. outcome_in first st (ask_each ask i (λ us. next (c.items ++ us))) r) e
+          ∙ ap (λ ys. outcome_in first st (next ys) r) (append-nil c.items)),
+    );
+    stop = tt;
+  }
 
   -- one that was not read
-  pub collects-stop : {Y Z : Type 0} (now : LogState Name) (is : X → A → Type 0) (xs : List X) (j k : ℕ)
-      (fault : VerifyFault) (old mid new : Reader) (l m n : Option (List ℕ))
-      (at : Z → A → Type 0) (these : Y → List A → Type 0)
+  pub collects-stop : {Y Z : Type 0} {now : LogState Name} {is : X → A → Type 0} {xs : List X} {j k : ℕ}
+      {fault : VerifyFault} {old mid new : Reader} {l m n : Option (List ℕ)}
+      {at : Z → A → Type 0} {these : Y → List A → Type 0}
       → now ≡ st → j ≡ suc k → CollectsFrom st ask is xs j old mid l m
       → AnsweredFrom now ask at (Err fault) mid new m n
       → AnsweredFrom st (ask_list ask) these (Err fault) old new l n
-  collects-stop now is xs j k fault old mid new None m n at these same e c a = tt
-  collects-stop now is xs j k fault old mid new (Some l) None n at these same e c a = absurd c
-  collects-stop now is xs j k fault old mid new (Some l) (Some m) None at these same e c a = a
-  collects-stop now is xs j k (verify.At line f) old mid new (Some l) (Some m) (Some n) at these same e c a =
-      λ first next. c.2 first next
-      ∙ ap (λ i. outcome_in first st (ask_each ask i (λ us. next (c.0 ++ us))) (rest mid m)) e
-      ∙ ap (λ s. outcome_in first s (ask (λ x. ask_each ask k (λ us. next (c.0 ++ (x ∷ us))))) (rest mid m))
-      (sym same)
-      ∙ a first (λ x. ask_each ask k (λ us. next (c.0 ++ (x ∷ us))))
-  collects-stop now is xs j k verify.ReadFault old mid new (Some l) (Some m) (Some n) at these same e c a = tt
-  collects-stop now is xs j k verify.Memory old mid new (Some l) (Some m) (Some n) at these same e c a = tt
+  collects-stop {k = k} {fault = fault} same e c a = record {
+    answer = tt;
+    stop = tokens-then c.tokens a.stop
+        (λ o r s g h. stops-after st ask fault c.items k o r (subst (λ i. GoesOnAfter st ask c.items i o r) e g)
+        (subst (λ t. StopsWith t ask fault r) same h));
+  }
 
-module _ {A : Type 0} (st : LogState Name) (ask : (A → RecordForm names) → RecordForm names) where
-  -- the count was not read
-  pub collects-none : {Y : Type 0} (e : VerifyFault) (old new : Reader) (l m : Option (List ℕ))
-      (these : Y → List A → Type 0)
-      → AnsweredFrom {X = ℕ} st AskCount IsValue (Err e) old new l m
+  -- one that was read, and not kept for want of memory
+  pub collects-memory : {Y : Type 0} {now : LogState Name} {is is' : X → A → Type 0} {xs : List X} {x : X} {k : ℕ}
+      {old mid new : Reader} {l m n : Option (List ℕ)} {these : Y → List A → Type 0} (q : Result Y VerifyFault)
+      → IsErrAnd q (λ f. f ≡ verify.Memory) → CollectsFrom st ask is xs k old mid l m
+      → AnsweredFrom now ask is' (Ok x) mid new m n → AnsweredFrom st (ask_list ask) these q old new l n
+  collects-memory (Ok y) handed c a = absurd handed
+  collects-memory (Err f) handed c a = record {
+    answer = tt;
+    stop = tokens-then c.tokens a.answer.2
+        (λ o r s g h. subst (λ d. StopsWith st (ask_list ask) d o) (sym handed) tt);
+  }
+
+-- the count was not read
+module _ {A : Type 0} {st : LogState Name} (ask : (A → RecordForm names) → RecordForm names) where
+  pub collects-none : {Y : Type 0} {e : VerifyFault} {old new : Reader} {l m : Option (List ℕ)}
+      {these : Y → List A → Type 0} → AnsweredFrom {X = ℕ} st AskCount IsValue (Err e) old new l m
       → AnsweredFrom st (ask_list ask) these (Err e) old new l m
-  collects-none e old new None m these a = tt
-  collects-none e old new (Some l) None these a = a
-  collects-none (verify.At line f) old new (Some l) (Some m) these a =
-      λ first next. a first (λ k. ask_each ask k next)
-  collects-none verify.ReadFault old new (Some l) (Some m) these a = tt
-  collects-none verify.Memory old new (Some l) (Some m) these a = tt
+  collects-none {e = e} a = record { answer = tt; stop = tokens-map a.stop (λ o r. stops-count st ask e o) }
 
 -- ---- one thing after another, asked for together
-module _ {A B C X Y Z : Type 0} (st : LogState Name) (ask : (A → RecordForm names) → RecordForm names)
-    (also : (B → RecordForm names) → RecordForm names) (pair : A → B → C) where
-  -- both were read
-  pub both-read : (is : X → A → Type 0) (are : Y → B → Type 0) (all : Z → C → Type 0)
-      (x : X) (y : Y) (z : Z) (old mid new : Reader) (l m n : Option (List ℕ))
-      → AnsweredFrom st ask is (Ok x) old mid l m → AnsweredFrom st also are (Ok y) mid new m n
-      → ((a : A) (b : B) → is x a → are y b → all z (pair a b))
-      → AnsweredFrom st (λ next. ask (λ a. also (λ b. next (pair a b)))) all (Ok z) old new l n
-  both-read is are all x y z old mid new None m n g h f = tt
-  both-read is are all x y z old mid new (Some l) None n g h f = absurd g
-  both-read is are all x y z old mid new (Some l) (Some m) None g h f = h
-  both-read is are all x y z old mid new (Some l) (Some m) (Some n) g h f = (
-    pair g.0 h.0,
-    f g.0 h.0 g.1 h.1,
-    λ first next. g.2 first (λ a. also (λ b. next (pair a b))) ∙ h.2 first (λ b. next (pair g.0 b)),
-  )
 
-  second-stops : (is : X → A → Type 0) (are : Y → B → Type 0) (all : Z → C → Type 0)
-      (x : X) (e : VerifyFault) (old mid new : Reader) (l m n : Option (List ℕ))
-      → AnsweredFrom st ask is (Ok x) old mid l m → AnsweredFrom st also are (Err e) mid new m n
-      → AnsweredFrom st (λ next. ask (λ a. also (λ b. next (pair a b)))) all (Err e) old new l n
-  second-stops is are all x e old mid new None m n g h = tt
-  second-stops is are all x e old mid new (Some l) None n g h = absurd g
-  second-stops is are all x e old mid new (Some l) (Some m) None g h = h
-  second-stops is are all x (verify.At line f) old mid new (Some l) (Some m) (Some n) g h =
-      λ first next. g.2 first (λ a. also (λ b. next (pair a b))) ∙ h first (λ b. next (pair g.0 b))
-  second-stops is are all x verify.ReadFault old mid new (Some l) (Some m) (Some n) g h = tt
-  second-stops is are all x verify.Memory old mid new (Some l) (Some m) (Some n) g h = tt
+-- the first of two things was not read
+stops-first : {A B C : Type 0} (st : LogState Name) (ask : (A → RecordForm names) → RecordForm names)
+    (also : (B → RecordForm names) → RecordForm names) (pair : A → B → C) (e : VerifyFault) (o : Rest)
+    → StopsWith st ask e o → StopsWith st (λ next. ask (λ a. also (λ b. next (pair a b)))) e o
+stops-first st ask also pair (verify.At line f) o h = λ first next. h first (λ a. also (λ b. next (pair a b)))
+stops-first st ask also pair verify.ReadFault o h = tt
+stops-first st ask also pair verify.Memory o h = tt
+
+pub first-stop : {A B C X Z : Type 0} {st : LogState Name} {ask : (A → RecordForm names) → RecordForm names}
+    (also : (B → RecordForm names) → RecordForm names) (pair : A → B → C) {is : X → A → Type 0}
+    {all : Z → C → Type 0} {old new : Reader} {l m : Option (List ℕ)} {e : VerifyFault} (q : Result Z VerifyFault)
+    → IsErrAnd q (λ f. f ≡ e) → AnsweredFrom st ask is (Err e) old new l m
+    → AnsweredFrom st (λ next. ask (λ a. also (λ b. next (pair a b)))) all q old new l m
+first-stop also pair (Ok z) handed g = absurd handed
+first-stop {st = st} {ask = ask} also pair {e = e} (Err d) handed g = record {
+  answer = tt;
+  stop = tokens-map g.stop
+      (λ o r h. subst (λ f. StopsWith st (λ next. ask (λ a. also (λ b. next (pair a b)))) f o) (sym handed)
+      (stops-first st ask also pair e o h));
+}
+
+-- the second of two things was not read
+stops-second : {A B C : Type 0} (st : LogState Name) (ask : (A → RecordForm names) → RecordForm names)
+    (also : (B → RecordForm names) → RecordForm names) (pair : A → B → C) (e : VerifyFault) (a : A) (o r : Rest)
+    → GoesOnWith st ask a o r → StopsWith st also e r
+    → StopsWith st (λ next. ask (λ a. also (λ b. next (pair a b)))) e o
+stops-second st ask also pair (verify.At line f) a o r k h = λ first next.
+    k first (λ a. also (λ b. next (pair a b))) ∙ h first (λ b. next (pair a b))
+stops-second st ask also pair verify.ReadFault a o r k h = tt
+stops-second st ask also pair verify.Memory a o r k h = tt
+
+module _ {A B C X Y Z : Type 0} {st was : LogState Name} {ask : (A → RecordForm names) → RecordForm names}
+    {also : (B → RecordForm names) → RecordForm names} (pair : A → B → C)
+    {is : X → A → Type 0} {are : Y → B → Type 0} {all : Z → C → Type 0} {old mid new : Reader}
+    {l m n : Option (List ℕ)} (same : st ≡ was) {x : X} (g : AnsweredFrom was ask is (Ok x) old mid l m) where
+  -- both were read
+  pub both-read : {y : Y} {z : Z} → AnsweredFrom st also are (Ok y) mid new m n
+      → ((a : A) (b : B) → is x a → are y b → all z (pair a b))
+      → AnsweredFrom was (λ next. ask (λ a. also (λ b. next (pair a b)))) all (Ok z) old new l n
+  both-read h f =
+      let (a, first_is, first_reads) = g.answer in
+      let (b, second_is, second_reads) = h.answer in
+      record {
+        answer = (
+          pair a b,
+          f a b first_is second_is,
+          tokens-then first_reads second_reads (λ o r s e k. λ first next. e first (λ a. also (λ b. next (pair a b)))
+              ∙ subst (λ t. GoesOnWith t also b r s) same k first (λ b. next (pair a b))),
+        );
+        stop = tt;
+      }
 
   -- the second was not read: its fault is handed on
-  pub second-stop : (is : X → A → Type 0) (are : Y → B → Type 0) (all : Z → C → Type 0)
-      (x : X) (e : VerifyFault) (r : Result Z VerifyFault) (old mid new : Reader) (l m n : Option (List ℕ))
-      → IsErrAnd r (λ f. f ≡ e)
-      → AnsweredFrom st ask is (Ok x) old mid l m → AnsweredFrom st also are (Err e) mid new m n
-      → AnsweredFrom st (λ next. ask (λ a. also (λ b. next (pair a b)))) all r old new l n
-  second-stop is are all x e (Ok z) old mid new l m n same g h = absurd same
-  second-stop is are all x e (Err f) old mid new l m n same g h =
-      subst (λ d. AnsweredFrom st (λ next. ask (λ a. also (λ b. next (pair a b)))) all (Err d) old new l n) (sym same)
-      (second-stops is are all x e old mid new l m n g h)
+  pub second-stop : {e : VerifyFault} (q : Result Z VerifyFault) → IsErrAnd q (λ f. f ≡ e)
+      → AnsweredFrom st also are (Err e) mid new m n
+      → AnsweredFrom was (λ next. ask (λ a. also (λ b. next (pair a b)))) all q old new l n
+  second-stop (Ok z) handed h = absurd handed
+  second-stop {e = e} (Err d) handed h =
+      let (a, found, reads) = g.answer in
+      record {
+        answer = tt;
+        stop = tokens-then reads h.stop (λ o r s k t.
+            subst (λ f. StopsWith was (λ next. ask (λ a. also (λ b. next (pair a b)))) f o) (sym handed)
+            (stops-second was ask also pair e a o r k (subst (λ z. StopsWith z also e r) same t)));
+      }
 
 -- further lines were taken
 pub advances-then : (old mid new : Reader) → Advances old mid → Advances mid new → Advances old new

@@ -1,82 +1,179 @@
--- The check of a log, from one record to the next, over a source that may tell its bytes.
-use Rattle.std.specs.Prelude.{Ok, Err, Option, Some, None, IfSome}
-use Rattle.std.proofs.Common.{◌≡◌, ℕ, List, [], sym, ap, ◌∙◌}
+-- The check of a log, from one record to the next, over the bytes that were read of a source.
+use Rattle.std.specs.Prelude.{true, false, Result, Ok, Err, IsOk, Option, Some, None, IfSome}
+use Rattle.std.specs.Io.KnownBytes.{IsAtEnd}
+use Rattle.std.proofs.Common.{◌≡◌, ℕ, List, [], sym, ap, subst, refl, ◌∙◌}
+use Rattle.ot_io.specs.Reading.{Reads, HasRead, OfTold}
+use Rattle.ot_io.proofs.Reading.{Reads-then, Reads-none, HasRead-told}
 use Rattle.ot_logic.specs.Names.{Name}
 use Rattle.ot_logic.specs.Naming.{names}
 use Rattle.ot_records.specs.State.{LogState, nothing_made}
 use Rattle.ot_records.specs.Records.{form}
-use Rattle.ot_records.specs.Check.{AtFirst, Between, check}
+use Rattle.ot_records.specs.Check.{Outcome, AtFirst, Between, check}
 use Rattle.ot_records.specs.declared.word.RecordWord.{RecordWord}
 use Rattle.ot_verify.specs.Reading.{log_check}
-use Rattle.ot_verify.specs.Taking.{rest}
+use Rattle.ot_verify.specs.Taking.{Rest, rest, ReadsTokens}
+use Rattle.ot_verify.specs.Asking.{outcome_in}
 use Rattle.ot_verify.specs.Logged.{Recorded, RecordedFrom}
-use Rattle.ot_verify.specs.Verifying.{Verifies}
-use Rattle.ot_verify.specs.Going.{Begins, BeginsFrom, HeadsFrom, Follows}
+use Rattle.ot_verify.specs.Verifying.{Proved, Verifies, proved_by}
+use Rattle.ot_verify.specs.Going.{Heads, Begins, BeginsFrom, HeadsFrom}
 use Rattle.ot_verify.specs.declared.reader.Reader.{Reader}
 use Rattle.ot_verify.specs.declared.fault.VerifyFault.{VerifyFault}
 use Rattle.ot_verify.specs.declared.fault.VerifyFault.TheVariants as verify
 
-module _ (max : ℕ) (st now : LogState Name) (w : RecordWord) (old mid new : Reader) where
-  -- one record more
-  pub follows-record : (all l m n : Option (List ℕ)) → Follows max st old all l → BeginsFrom (Ok (Some w)) old mid l m
-      → RecordedFrom (Ok (tt {0})) (form names w) mid.last st now mid new m n → Follows max now new all n
-  follows-record None l m n f b r = tt
-  follows-record (Some bytes) None m n f b r = absurd f
-  follows-record (Some bytes) (Some l) None n f b r = absurd b
-  follows-record (Some bytes) (Some l) (Some m) None f b r = absurd r
-  follows-record (Some bytes) (Some l) (Some m) (Some n) f b r = f ∙ b st ∙ r
-
-  -- a record that is refused
-  stops : (e : VerifyFault) (bytes l m n : List ℕ) → log_check max bytes ≡ check names old.last (Between st)
-      (rest old l).tokens
-      → Begins (Ok (Some w)) (rest old l) (rest mid m) → Recorded (Err e) (form names w) mid.last st now (rest mid m)
-      (rest new n)
-      → Verifies (Err e) (log_check max bytes)
-  stops (verify.At line fault) bytes l m n f b r = f ∙ b st ∙ r
-  stops verify.ReadFault bytes l m n f b r = tt
-  stops verify.Memory bytes l m n f b r = tt
-
-  pub follows-refused : (e : VerifyFault) (all l m n : Option (List ℕ)) → Follows max st old all l
-      → BeginsFrom (Ok (Some w)) old mid l m → RecordedFrom (Err e) (form names w) mid.last st now mid new m n
-      → IfSome all (λ bytes. Verifies (Err e) (log_check max bytes))
-  follows-refused e None l m n f b r = tt
-  follows-refused e (Some bytes) None m n f b r = absurd f
-  follows-refused e (Some bytes) (Some l) None n f b r = absurd b
-  follows-refused e (Some bytes) (Some l) (Some m) None f b r = absurd r
-  follows-refused e (Some bytes) (Some l) (Some m) (Some n) f b r = stops e bytes l m n f b r
-
--- ---- before the first record
+-- the reader before the header
 abbrev pub first_reader : ℕ → Reader
-first_reader max = record { lines = record { max = max; held = []; before = 0; number = 0 }; last = 0 }
+first_reader max =
+    record { lines = record { max = max; held = []; before = 0; number = 0; ended = false }; last = 0 }
 
-module _ (max : ℕ) (old new : Reader) (is : old ≡ first_reader max) where
-  from-first : (bytes : List ℕ) → log_check max bytes ≡ check names old.last AtFirst (rest old bytes).tokens
-  from-first bytes = ap (λ (r : Reader). check names r.last AtFirst (rest r bytes).tokens) (sym is)
+-- ---- where the check is, of these bytes, when those are left
 
-  -- the header was read
-  pub follows-header : (st : LogState Name) (u : Unit {0}) (all l : Option (List ℕ)) → st ≡ nothing_made
-      → HeadsFrom (Ok u) old new all l → Follows max st new all l
-  follows-header st u None l e h = tt
-  follows-header st u (Some bytes) None e h = absurd h
-  follows-header st u (Some bytes) (Some l) e h =
-      from-first bytes ∙ h ∙ ap (λ s. check names new.last (Between s) (rest new l).tokens) (sym e)
+-- before the header
+abbrev AtHeader : ℕ → Reader → List ℕ → List ℕ → Type 0
+AtHeader max r bytes left = log_check max bytes ≡ check names r.last AtFirst (rest r left).tokens
 
-  -- no header
-  pub header-refused : (e : VerifyFault) (all l : Option (List ℕ)) → HeadsFrom (Err e) old new all l
-      → IfSome all (λ bytes. Verifies (Err e) (log_check max bytes))
-  header-refused e None l h = tt
-  header-refused e (Some bytes) None h = absurd h
-  header-refused (verify.At line fault) (Some bytes) (Some l) h = from-first bytes ∙ h
-  header-refused verify.ReadFault (Some bytes) (Some l) h = tt
-  header-refused verify.Memory (Some bytes) (Some l) h = tt
+-- between two records, which made this
+abbrev AtRecord : ℕ → LogState Name → Reader → List ℕ → List ℕ → Type 0
+AtRecord max st r bytes left = log_check max bytes ≡ check names r.last (Between st) (rest r left).tokens
 
--- no word of a record
-pub word-refused : (max : ℕ) (st : LogState Name) (old new : Reader) (e : VerifyFault) (all l m : Option (List ℕ))
-    → Follows max st old all l → BeginsFrom (Err e) old new l m
-    → IfSome all (λ bytes. Verifies (Err e) (log_check max bytes))
-word-refused max st old new e None l m f b = tt
-word-refused max st old new e (Some bytes) None m f b = absurd f
-word-refused max st old new e (Some bytes) (Some l) None f b = absurd b
-word-refused max st old new (verify.At line fault) (Some bytes) (Some l) (Some m) f b = f ∙ b st
-word-refused max st old new verify.ReadFault (Some bytes) (Some l) (Some m) f b = tt
-word-refused max st old new verify.Memory (Some bytes) (Some l) (Some m) f b = tt
+-- behind the word of a record
+abbrev AtWord : ℕ → LogState Name → RecordWord → Reader → List ℕ → List ℕ → Type 0
+AtWord max st w r bytes left = log_check max bytes ≡ outcome_in r.last st (form names w) (rest r left)
+
+-- the check so far, of the bytes that were read and any that may follow
+pub record Follows (max : ℕ) (st : LogState Name) (r : Reader) (all left : Option (List ℕ)) : Type 0 where
+  pub bytes : Reads false r.lines.ended all left (AtRecord max st r)
+
+-- the answer is that of the check of the bytes that were read, which are all where the log is accepted
+abbrev pub Checked : ℕ → Result Proved VerifyFault → Option (List ℕ) → Option (List ℕ) → Type 0
+Checked max result all left = HasRead all left (IsOk result) (λ bytes after. Verifies result (log_check max bytes))
+
+module _ {old new : Reader} {all l m : Option (List ℕ)} (P : List ℕ → List ℕ → Type 0) (Q : Rest → Rest → Type 0)
+    (f : Reads false old.lines.ended all l P) (q : ReadsTokens old new l m Q) where
+  -- tokens more
+  read-on : (R : List ℕ → List ℕ → Type 0) → ((x y z : List ℕ) → P x y → Q (rest old y) (rest new z) → R x z)
+      → Reads false new.lines.ended all m R
+  read-on R to =
+      Reads-then false old.lines.ended new.lines.ended all l m P (λ y z. Q (rest old y) (rest new z)) R to f
+      q.bytes
+
+  -- the answer
+  answers : (max : ℕ) (result : Result Proved VerifyFault)
+      → ((x y z : List ℕ) → P x y → Q (rest old y) (rest new z) → Verifies result (log_check max x))
+      → (IsOk result → new.lines.ended ≡ true) → Checked max result all m
+  answers max result to end = record {
+    ended = new.lines.ended;
+    to_end = end;
+    reads = read-on (λ x z. Verifies result (log_check max x)) to;
+  }
+
+-- ---- the header
+
+at-header : (max : ℕ) (old : Reader) (all : Option (List ℕ)) → old ≡ first_reader max
+    → Reads false old.lines.ended all all (AtHeader max old)
+at-header max old all is =
+    subst (λ r. Reads false r.lines.ended all all (AtHeader max r)) (sym is)
+    (Reads-none false all (AtHeader max (first_reader max)) (λ x may. refl))
+
+stops-header : (e : VerifyFault) (out : Outcome Name) (o r : Rest) → out ≡ check names o.last AtFirst o.tokens
+    → Heads (Err e) o r → Verifies (Err e) out
+stops-header (verify.At line fault) out o r p q = p ∙ q
+stops-header verify.ReadFault out o r p q = tt
+stops-header verify.Memory out o r p q = tt
+
+module _ (max : ℕ) {old new : Reader} {all l : Option (List ℕ)} (is : old ≡ first_reader max) where
+  -- it was read
+  pub follows-header : {st : LogState Name} {u : Unit {0}} → st ≡ nothing_made → HeadsFrom (Ok u) old new all l
+      → Follows max st new all l
+  follows-header {st = st} {u = u} e h = record {
+    bytes = read-on (AtHeader max old) (Heads (Ok u)) (at-header max old all is) h.tokens (AtRecord max st new)
+        (λ x y z p q. p ∙ q ∙ ap (λ s. check names new.last (Between s) (rest new z).tokens) (sym e));
+  }
+
+  -- it was not
+  pub header-refused : {e : VerifyFault} → HeadsFrom (Err e) old new all l → Checked max (Err e) all l
+  header-refused {e = e} h =
+      answers (AtHeader max old) (Heads (Err e)) (at-header max old all is) h.tokens max (Err e)
+      (λ x y z p q. stops-header e (log_check max x) (rest old y) (rest new z) p q) (λ ok. cc)
+
+-- ---- a record
+
+stops-word : (st : LogState Name) (e : VerifyFault) (out : Outcome Name) (o r : Rest)
+    → out ≡ check names o.last (Between st) o.tokens → Begins (Err e) o r → Verifies (Err e) out
+stops-word st (verify.At line fault) out o r p q = p ∙ q st
+stops-word st verify.ReadFault out o r p q = tt
+stops-word st verify.Memory out o r p q = tt
+
+stops-record : (first : ℕ) (w : RecordWord) (st now : LogState Name) (e : VerifyFault) (out : Outcome Name) (o r : Rest)
+    → out ≡ outcome_in first st (form names w) o → Recorded (Err e) (form names w) first st now o r
+    → Verifies (Err e) out
+stops-record first w st now (verify.At line fault) out o r p q = p ∙ q
+stops-record first w st now verify.ReadFault out o r p q = tt
+stops-record first w st now verify.Memory out o r p q = tt
+
+module _ {max : ℕ} {st : LogState Name} {old mid : Reader} {all l m : Option (List ℕ)}
+    (f : Follows max st old all l) where
+  -- the end
+  pub follows-end : BeginsFrom (Ok None) old mid l m → Checked max (Ok (proved_by st)) all m
+  follows-end b =
+      answers (AtRecord max st old) (Begins (Ok None)) f.bytes b.tokens max (Ok (proved_by st))
+      (λ x y z e h. (st, e ∙ h st, refl)) (λ ok. b.end)
+
+  -- no word of a record
+  pub word-refused : {e : VerifyFault} → BeginsFrom (Err e) old mid l m → Checked max (Err e) all m
+  word-refused {e = e} b =
+      answers (AtRecord max st old) (Begins (Err e)) f.bytes b.tokens max (Err e)
+      (λ x y z p q. stops-word st e (log_check max x) (rest old y) (rest mid z) p q) (λ ok. cc)
+
+  -- a word
+  begun : (w : RecordWord) → BeginsFrom (Ok (Some w)) old mid l m
+      → Reads false mid.lines.ended all m (AtWord max st w mid)
+  begun w b =
+      read-on (AtRecord max st old) (Begins (Ok (Some w))) f.bytes b.tokens (AtWord max st w mid)
+      (λ x y z e h. e ∙ h st)
+
+  module _ {w : RecordWord} {new : Reader} {n : Option (List ℕ)} {now : LogState Name}
+      (b : BeginsFrom (Ok (Some w)) old mid l m) where
+    -- the record was read
+    pub follows-record : {u : Unit {0}} → RecordedFrom (Ok u) (form names w) mid.last st now mid new m n
+        → Follows max now new all n
+    follows-record {u = u} r = record {
+      bytes = read-on (AtWord max st w mid) (Recorded (Ok u) (form names w) mid.last st now) (begun w b) r.tokens
+          (AtRecord max now new) (λ x y z e h. e ∙ h);
+    }
+
+    -- it was not
+    pub record-refused : {e : VerifyFault} → RecordedFrom (Err e) (form names w) mid.last st now mid new m n
+        → Checked max (Err e) all n
+    record-refused {e = e} r =
+        answers (AtWord max st w mid) (Recorded (Err e) (form names w) mid.last st now) (begun w b) r.tokens max
+        (Err e)
+        (λ x y z p q. stops-record mid.last w st now e (log_check max x) (rest mid y) (rest new z) p q) (λ ok. cc)
+
+-- ---- what the answer says
+
+-- want of memory before the first byte
+pub none-checked : (max : ℕ) (all : Option (List ℕ)) → Checked max (Err verify.Memory) all all
+none-checked max all = record {
+  ended = false;
+  to_end = λ ok. cc;
+  reads = Reads-none false all (λ x y. Verifies (Err verify.Memory) (log_check max x)) (λ x may. tt);
+}
+
+-- of a source that tells its bytes
+of-all : (P : List ℕ → Type 0) (all left : Option (List ℕ)) → OfTold all left (λ x y. P x) → IfSome all P
+of-all P None left h = tt
+of-all P (Some x) None h = absurd h
+of-all P (Some x) (Some y) h = h
+
+none-left : (all left : Option (List ℕ)) → IsAtEnd left → IfSome all (λ _. IfSome left (λ bytes. bytes ≡ []))
+none-left None left h = tt
+none-left (Some x) None h = tt
+none-left (Some x) (Some y) h = h
+
+module _ {all left : Option (List ℕ)} {E : Type 0} {P : List ℕ → Type 0} (h : HasRead all left E (λ x y. P x)) where
+  pub read-told : IfSome all P
+  read-told = of-all P all left (HasRead-told all left E (λ x y. P x) h)
+
+  -- and was read to the end
+  pub read-spent : E → IfSome all (λ _. IfSome left (λ bytes. bytes ≡ []))
+  read-spent e = none-left all left (h.reads.end (λ e. cc) (h.to_end e))

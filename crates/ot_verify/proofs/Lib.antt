@@ -1,9 +1,12 @@
 -- Lemmas on proof logs.
 pub mod Rows
 pub mod Named
+pub mod Tokens
 pub mod Read
+pub mod OneToken
+pub mod Asked
+pub mod Heading
 pub mod Recording
-pub mod Earlier
 pub mod Following
 pub mod Numbering
 pub mod Collecting

@@ -1,6 +1,6 @@
 -- A record, token after token.
-use Rattle.std.specs.Prelude.{Ok, Err, Result, Option, Some, None}
-use Rattle.std.proofs.Common.{◌≡◌, ℕ, List, ap, ◌∙◌}
+use Rattle.std.specs.Prelude.{Ok, Err, Result, IsErrAnd, Option}
+use Rattle.std.proofs.Common.{◌≡◌, ℕ, List, sym, ap, subst, ◌∙◌}
 use Rattle.ot_logic.specs.Names.{Name}
 use Rattle.ot_logic.specs.Naming.{names}
 use Rattle.ot_logic.specs.Answers.{◌>>=◌}
@@ -8,14 +8,15 @@ use Rattle.ot_records.specs.Tokens as stated
 use Rattle.ot_records.specs.State.{LogState, Change}
 use Rattle.ot_records.specs.Records.{RecordForm, Makes}
 use Rattle.ot_records.specs.Check.{Between, Stops, at_line, go_on, check}
-use Rattle.ot_verify.specs.Taking.{Rest, rest}
-use Rattle.ot_verify.specs.Asking.{outcome_in, AnsweredFrom}
-use Rattle.ot_verify.specs.Logged.{MadeBy, refused, settled_at, Recorded, RecordedFrom}
+use Rattle.ot_verify.specs.Taking.{Rest}
+use Rattle.ot_verify.specs.Asking.{outcome_in, StopsWith, AnsweredFrom}
+use Rattle.ot_verify.specs.Logged.{MadeBy, settled_at, Recorded, RecordedFrom}
 use Rattle.ot_verify.specs.declared.reader.Reader.{Reader}
 use Rattle.ot_verify.specs.declared.log.Refusal.{Refusal}
 use Rattle.ot_verify.specs.declared.log.Refusal.TheVariants as refusals
 use Rattle.ot_verify.specs.declared.fault.VerifyFault.{VerifyFault}
 use Rattle.ot_verify.specs.declared.fault.VerifyFault.TheVariants as verify
+use Rattle.ot_verify.proofs.Tokens.{tokens-then, tokens-map, tokens-none}
 
 -- the check goes on alike
 recorded-on : (q : Result (Unit {0}) VerifyFault) (f g : RecordForm names)
@@ -27,30 +28,37 @@ recorded-on (Err (verify.At line fault)) f g first st now old mid new e h = e �
 recorded-on (Err verify.ReadFault) f g first st now old mid new e h = tt
 recorded-on (Err verify.Memory) f g first st now old mid new e h = tt
 
--- what was asked for was read, and then the rest
-pub answered-then : {A X : Type 0} (st now : LogState Name) (ask : (A → RecordForm names) → RecordForm names)
-    (is : X → A → Type 0) (x : X) (next : A → RecordForm names) (first : ℕ)
-    (q : Result (Unit {0}) VerifyFault) (old mid new : Reader) (l m n : Option (List ℕ))
-    → AnsweredFrom st ask is (Ok x) old mid l m
-    → ((a : A) → is x a → RecordedFrom q (next a) first st now mid new m n)
-    → RecordedFrom q (ask next) first st now old new l n
-answered-then st now ask is x next first q old mid new None m n a h = tt
-answered-then st now ask is x next first q old mid new (Some l) None n a h = absurd a
-answered-then st now ask is x next first q old mid new (Some l) (Some m) None a h = h a.0 a.1
-answered-then st now ask is x next first q old mid new (Some l) (Some m) (Some n) a h =
-    recorded-on q (ask next) (next a.0) first st now (rest old l) (rest mid m) (rest new n) (a.2 first next)
-    (h a.0 a.1)
+stops-record : {A : Type 0} (st now : LogState Name) (ask : (A → RecordForm names) → RecordForm names)
+    (e : VerifyFault) (next : A → RecordForm names) (first : ℕ) (o r : Rest)
+    → StopsWith st ask e o → Recorded (Err e) (ask next) first st now o r
+stops-record st now ask (verify.At line fault) next first o r a = a first next
+stops-record st now ask verify.ReadFault next first o r a = tt
+stops-record st now ask verify.Memory next first o r a = tt
 
--- what was asked for was not read
-pub answered-stop : {A X : Type 0} (st now : LogState Name) (ask : (A → RecordForm names) → RecordForm names)
-    (is : X → A → Type 0) (e : VerifyFault) (next : A → RecordForm names) (first : ℕ) (old new : Reader)
-    (l m : Option (List ℕ))
-    → AnsweredFrom {X = X} st ask is (Err e) old new l m → RecordedFrom (Err e) (ask next) first st now old new l m
-answered-stop st now ask is e next first old new None m a = tt
-answered-stop st now ask is e next first old new (Some l) None a = a
-answered-stop st now ask is (verify.At line fault) next first old new (Some l) (Some m) a = a first next
-answered-stop st now ask is verify.ReadFault next first old new (Some l) (Some m) a = tt
-answered-stop st now ask is verify.Memory next first old new (Some l) (Some m) a = tt
+module _ {A X : Type 0} {st was now : LogState Name} {ask : (A → RecordForm names) → RecordForm names}
+    {is : X → A → Type 0} {first : ℕ} (same : st ≡ was) (next : A → RecordForm names) where
+  -- what was asked for was read, and then the rest
+  pub answered-then : {x : X} {q : Result (Unit {0}) VerifyFault} {old mid new : Reader} {l m n : Option (List ℕ)}
+      → AnsweredFrom st ask is (Ok x) old mid l m
+      → ((a : A) → is x a → RecordedFrom q (next a) first was now mid new m n)
+      → RecordedFrom q (ask next) first was now old new l n
+  answered-then {q = q} a h =
+      let (y, found, reads) = a.answer in
+      record {
+        tokens = tokens-then reads (h y found).tokens (λ o r s e. recorded-on q (ask next) (next y) first was now o r s
+            (subst (λ t. outcome_in first t (ask next) o ≡ outcome_in first t (next y) r) same (e first next)));
+      }
+
+  -- what was asked for was not read: the fault is handed on
+  pub answered-stop : {e : VerifyFault} {old new : Reader} {l m : Option (List ℕ)} (q : Result (Unit {0}) VerifyFault)
+      → IsErrAnd q (λ f. f ≡ e) → AnsweredFrom st ask is (Err e) old new l m
+      → RecordedFrom q (ask next) first was now old new l m
+  answered-stop (Ok u) handed a = absurd handed
+  answered-stop {e = e} (Err f) handed a = record {
+    tokens = tokens-map a.stop
+        (λ o r s. subst (λ d. Recorded (Err d) (ask next) first was now o r) (sym handed)
+        (stops-record was now ask e next first o r (subst (λ t. StopsWith t ask e o) same s)));
+  }
 
 -- the record makes what it makes
 makes-ok : (change : Change names) (first : ℕ) (st now : LogState Name) (r : Rest) → change st ≡ Ok now
@@ -64,24 +72,19 @@ makes-err : (change : Change names) (first : ℕ) (st : LogState Name) (fault : 
 makes-err change first st fault r e =
     ap (λ z. go_on names (at_line names first z >>= λ s. Ok (Between s)) (λ p. check names r.last p r.tokens)) e
 
-pub made-ok : (change : Change names) (first : ℕ) (st now : LogState Name) (r : Reader) (l : Option (List ℕ))
-    → MadeBy (Ok (tt {0})) change st now → RecordedFrom (Ok (tt {0})) (Makes change) first st now r r l l
-made-ok change first st now r None m = tt
-made-ok change first st now r (Some l) m = makes-ok change first st now (rest r l) m
-
-pub made-refused : (change : Change names) (first : ℕ) (st now : LogState Name) (r : Reader) (l : Option (List ℕ))
-    (e : Refusal)
-    → MadeBy (Err e) change st now → RecordedFrom (Err (refused first e)) (Makes change) first st now r r l l
-made-refused change first st now r None e m = tt
-made-refused change first st now r (Some l) refusals.BadStep m = makes-err change first st stated.BadStep (rest r l) m
-made-refused change first st now r (Some l) refusals.LogNesting m =
-    makes-err change first st stated.LogNesting (rest r l) m
-made-refused change first st now r (Some l) refusals.NoSuch m = absurd m
-made-refused change first st now r (Some l) refusals.Memory m = tt
+made-here : (change : Change names) (first : ℕ) (st now : LogState Name) (made : Result (Unit {0}) Refusal) (r : Rest)
+    → MadeBy made change st now → Recorded (settled_at first made) (Makes change) first st now r r
+made-here change first st now (Ok u) r m = makes-ok change first st now r m
+made-here change first st now (Err refusals.BadStep) r m = makes-err change first st stated.BadStep r m
+made-here change first st now (Err refusals.LogNesting) r m = makes-err change first st stated.LogNesting r m
+made-here change first st now (Err refusals.NoSuch) r m = absurd m
+made-here change first st now (Err refusals.Memory) r m = tt
 
 -- both answers of a record
-pub made-settled : (change : Change names) (first : ℕ) (st now : LogState Name)
-    (r : Reader) (l : Option (List ℕ)) (made : Result (Unit {0}) Refusal)
-    → MadeBy made change st now → RecordedFrom (settled_at first made) (Makes change) first st now r r l l
-made-settled change first st now r l (Ok u) m = made-ok change first st now r l m
-made-settled change first st now r l (Err e) m = made-refused change first st now r l e m
+module _ {change : Change names} {first : ℕ} {st was now : LogState Name} {r : Reader} {l : Option (List ℕ)}
+    (same : st ≡ was) (made : Result (Unit {0}) Refusal) where
+  pub made-settled : MadeBy made change st now
+      → RecordedFrom (settled_at first made) (Makes change) first was now r r l l
+  made-settled m = record {
+    tokens = tokens-none (λ s. made-here change first was now made s (subst (λ z. MadeBy made change z now) same m));
+  }

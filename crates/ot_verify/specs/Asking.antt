@@ -1,11 +1,11 @@
 -- What a record asks for, as the code reads it.
-use Rattle.std.specs.Prelude.{◌≡◌, ℕ, List, [], ◌∷◌, ◌++◌, Result, Ok, Err, Option, Some, None, slice_get}
+use Rattle.std.specs.Prelude.{◌≡◌, ℕ, List, [], ◌∷◌, ◌++◌, Result, IfOk, IfErr, Option, Some, slice_get}
 use Rattle.ot_logic.specs.Names.{Name}
 use Rattle.ot_logic.specs.Naming.{names}
 use Rattle.ot_records.specs.State.{LogState}
 use Rattle.ot_records.specs.Records.{RecordForm, ask_each, ask_list}
 use Rattle.ot_records.specs.Check.{Outcome, Stops, settled, go_on, check}
-use Rattle.ot_verify.specs.Taking.{fault_of, Rest, rest}
+use Rattle.ot_verify.specs.Taking.{fault_of, Rest, ReadsTokens}
 use Rattle.ot_verify.specs.declared.reader.Reader.{Reader}
 use Rattle.ot_verify.specs.declared.fault.VerifyFault.{VerifyFault}
 use Rattle.ot_verify.specs.declared.fault.VerifyFault.TheVariants as verify
@@ -14,26 +14,27 @@ use Rattle.ot_verify.specs.declared.fault.VerifyFault.TheVariants as verify
 abbrev pub outcome_in : ℕ → LogState Name → RecordForm names → Rest → Outcome Name
 outcome_in first st f r = go_on names (settled names first st f) (λ p. check names r.last p r.tokens)
 
--- what was asked for was read, and the record goes on with it; or the check stops
-abbrev pub Answered : {A X : Type 0} → LogState Name → ((A → RecordForm names) → RecordForm names) → (X → A → Type 0)
-    → Result X VerifyFault → Rest → Rest → Type 0
-Answered {A} {X} st ask is (Ok x) old new =
-    (a : A) × is x a
-    × ((first : ℕ) (next : A → RecordForm names) → outcome_in first st (ask next) old
-    ≡ outcome_in first st (next a) new)
-Answered {A} {X} st ask is (Err (verify.At line f)) old new =
-    (first : ℕ) (next : A → RecordForm names) → outcome_in first st (ask next) old ≡ Stops line (fault_of f)
-Answered st ask is (Err verify.ReadFault) old new = Unit {0}
-Answered st ask is (Err verify.Memory) old new = Unit {0}
+-- a record that asks so goes on with what was asked for
+abbrev pub GoesOnWith : {A : Type 0} → LogState Name → ((A → RecordForm names) → RecordForm names) → A → Rest → Rest
+    → Type 0
+GoesOnWith {A} st ask a old new =
+    (first : ℕ) (next : A → RecordForm names) → outcome_in first st (ask next) old ≡ outcome_in first st (next a) new
 
--- where the source's bytes are known; then those that are left are known too
-abbrev pub AnsweredFrom : {A X : Type 0} → LogState Name → ((A → RecordForm names) → RecordForm names)
-    → (X → A → Type 0)
-    → Result X VerifyFault → Reader → Reader → Option (List ℕ) → Option (List ℕ) → Type 0
-AnsweredFrom st ask is result old new None left' = Unit {0}
-AnsweredFrom st ask is result old new (Some left) None = ⊥
-AnsweredFrom st ask is result old new (Some left) (Some left') =
-    Answered st ask is result (rest old left) (rest new left')
+-- a record that asks so stops with this fault
+abbrev pub StopsWith : {A : Type 0} → LogState Name → ((A → RecordForm names) → RecordForm names) → VerifyFault → Rest
+    → Type 0
+StopsWith {A} st ask (verify.At line f) old =
+    (first : ℕ) (next : A → RecordForm names) → outcome_in first st (ask next) old ≡ Stops line (fault_of f)
+StopsWith st ask verify.ReadFault old = Unit {0}
+StopsWith st ask verify.Memory old = Unit {0}
+
+-- what was asked for was read, and the record goes on with it; or the check stops. What was read is the same whatever
+-- may follow
+pub record AnsweredFrom {A X : Type 0} (st : LogState Name) (ask : (A → RecordForm names) → RecordForm names)
+    (is : X → A → Type 0) (result : Result X VerifyFault) (old new : Reader) (left left' : Option (List ℕ)) : Type 0
+  where
+    pub answer : IfOk result (λ x. (a : A) × is x a × ReadsTokens old new left left' (GoesOnWith st ask a))
+    pub stop : IfErr result (λ e. ReadsTokens old new left left' (λ before after. StopsWith st ask e before))
 
 -- the value itself
 abbrev pub IsValue : {A : Type 0} → A → A → Type 0
@@ -49,19 +50,16 @@ AreEach is [] [] = Unit {0}
 AreEach is (x ∷ xs) (y ∷ ys) = is x y × AreEach is xs ys
 AreEach is _ _ = ⊥
 
--- items were read for a record that asks for so many more
-abbrev pub Collects : {A X : Type 0} → LogState Name → ((A → RecordForm names) → RecordForm names) → (X → A → Type 0)
-    → List X → ℕ
-    → Rest → Rest → Type 0
-Collects {A} {X} st ask is xs k old new =
-    (ys : List A) × AreEach is xs ys
-    × ((first : ℕ) (next : List A → RecordForm names)
-    → outcome_in first st (ask_list ask next) old ≡ outcome_in first st (ask_each ask k (λ us. next (ys ++ us))) new)
+-- a record that asks for a list goes on with these items, and asks for so many more
+abbrev pub GoesOnAfter : {A : Type 0} → LogState Name → ((A → RecordForm names) → RecordForm names) → List A → ℕ → Rest
+    → Rest → Type 0
+GoesOnAfter {A} st ask ys k old new =
+    (first : ℕ) (next : List A → RecordForm names)
+    → outcome_in first st (ask_list ask next) old ≡ outcome_in first st (ask_each ask k (λ us. next (ys ++ us))) new
 
-abbrev pub CollectsFrom : {A X : Type 0} → LogState Name → ((A → RecordForm names) → RecordForm names)
-    → (X → A → Type 0) → List X
-    → ℕ → Reader → Reader → Option (List ℕ) → Option (List ℕ) → Type 0
-CollectsFrom st ask is xs k old new None left' = Unit {0}
-CollectsFrom st ask is xs k old new (Some left) None = ⊥
-CollectsFrom st ask is xs k old new (Some left) (Some left') =
-    Collects st ask is xs k (rest old left) (rest new left')
+-- items were read for a record that asks for so many more
+pub record CollectsFrom {A X : Type 0} (st : LogState Name) (ask : (A → RecordForm names) → RecordForm names)
+    (is : X → A → Type 0) (xs : List X) (k : ℕ) (old new : Reader) (left left' : Option (List ℕ)) : Type 0 where
+  pub items : List A
+  pub each : AreEach is xs items
+  pub tokens : ReadsTokens old new left left' (GoesOnAfter st ask items k)

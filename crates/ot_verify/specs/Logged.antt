@@ -1,5 +1,5 @@
 -- What contracts see of a log that is checked, and what its records do.
-use Rattle.std.specs.Prelude.{◌≡◌, ℕ, List, Result, Ok, Err, Option, Some, None, slice_get, refl}
+use Rattle.std.specs.Prelude.{◌≡◌, ℕ, List, Result, Ok, Err, Option, Some, slice_get, refl}
 use Rattle.std.specs.Coded.{Coded, code_by, coded×, coded_list}
 use Rattle.ot_logic.specs.Table.{Extends}
 use Rattle.ot_nodes.specs.Items.{Item, coded_item, IsName}
@@ -14,7 +14,7 @@ use Rattle.ot_records.specs.Tokens as stated
 use Rattle.ot_records.specs.State.{LogState, Change}
 use Rattle.ot_records.specs.Records.{RecordForm}
 use Rattle.ot_records.specs.Check.{Stops, Between, check}
-use Rattle.ot_verify.specs.Taking.{fault_of, Rest, rest}
+use Rattle.ot_verify.specs.Taking.{fault_of, Rest, ReadsTokens}
 use Rattle.ot_verify.specs.Asking.{outcome_in}
 use Rattle.ot_verify.specs.declared.reader.Reader.{Reader}
 use Rattle.ot_verify.specs.declared.log.Refusal.{Refusal}
@@ -103,11 +103,7 @@ Recorded (Err (verify.At line fault)) f first st now old new = outcome_in first 
 Recorded (Err verify.ReadFault) f first st now old new = Unit {0}
 Recorded (Err verify.Memory) f first st now old new = Unit {0}
 
--- where the source's bytes are known; then those that are left are known too
-abbrev pub RecordedFrom : Result (Unit {0}) VerifyFault → RecordForm names → ℕ → LogState Name → LogState Name
-    → Reader → Reader
-    → Option (List ℕ) → Option (List ℕ) → Type 0
-RecordedFrom result f first st now old new None left' = Unit {0}
-RecordedFrom result f first st now old new (Some left) None = ⊥
-RecordedFrom result f first st now old new (Some left) (Some left') =
-    Recorded result f first st now (rest old left) (rest new left')
+-- of the bytes that were read, and any that may follow
+pub record RecordedFrom (result : Result (Unit {0}) VerifyFault) (f : RecordForm names) (first : ℕ)
+    (st now : LogState Name) (old new : Reader) (left left' : Option (List ℕ)) : Type 0 where
+  pub tokens : ReadsTokens old new left left' (Recorded result f first st now)

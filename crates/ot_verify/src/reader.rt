@@ -1,13 +1,13 @@
-ghost use Rattle.std.specs.Prelude.{◌≡◌, ◌<◌, ◌≤◌, ◌^◌, ℕ, length, slice_index, [], Err, IfOk, IfSome};
+ghost use Rattle.std.specs.Prelude.{◌≡◌, ◌<◌, ◌≤◌, ◌^◌, ℕ, length, slice_index, [], false, Err, IfOk, IfSome};
 ghost use Rattle.ot_io.specs.Causes.{CountRose};
 ghost use Rattle.ot_io.specs.Keeping.{KeepsSource};
 ghost use Rattle.ot_records.specs.State.{LogState};
 ghost use Rattle.ot_records.specs.Records.{AskName, AskCount, AskType, AskTerm, AskSequent};
 ghost use Rattle.ot_logic.specs.Names.{Name as NameValue};
 ghost use Rattle.ot_verify.specs.Reading.{token};
-ghost use Rattle.ot_verify.specs.Taking.{TakesFrom, SpendsAt, TakesText, ReadsName, stopped};
+ghost use Rattle.ot_verify.specs.Taking.{TakesFrom, TakesText, ReadsName, stopped};
 ghost use Rattle.ot_verify.specs.Asking.{AnsweredFrom, IsValue, IsAt};
-ghost use Rattle.ot_verify.specs.Going.{HeadsFrom, BeginsFrom, Spends, Advances, ReadsOn};
+ghost use Rattle.ot_verify.specs.Going.{HeadsFrom, BeginsFrom, Advances, ReadsOn};
 
 use crate::fault::{LogFault, VerifyFault};
 use crate::token::{Token, read_token};
@@ -41,7 +41,7 @@ impl Reader {
     pub(crate) fn new(max_bytes: u64) -> Reader
         requires { max_bytes ≤ 2 ^ 32 }
         ensures { result ≡ record {
-          lines = record { max = max_bytes; held = []; before = 0; number = 0 };
+          lines = record { max = max_bytes; held = []; before = 0; number = 0; ended = false };
           last = 0;
         } }
     {
@@ -58,7 +58,6 @@ impl Reader {
         source: &mut S,
     ) -> Result<Option<Taken>, VerifyFault>
         ensures taken { TakesFrom result self.old self.new (S.left source.old) (S.left source.new) }
-        ensures spent { SpendsAt result (S.left source.old) (S.left source.new) }
         ensures advances { IfOk result (λ o. IfSome o (λ _. Advances self.old self.new)) }
         ensures cause { result ≡ Err VerifyFault.ReadFault → CountRose (S.faults source.old) (S.faults source.new) }
         ensures kept { KeepsSource S.folder S.faults S.misses S.at source.old source.new }
@@ -172,7 +171,6 @@ impl Reader {
         source: &mut S,
     ) -> Result<Option<RecordWord>, VerifyFault>
         ensures begins { BeginsFrom result self.old self.new (S.left source.old) (S.left source.new) }
-        ensures spent { Spends result (S.left source.old) (S.left source.new) }
         ensures advances { IfOk result (λ o. IfSome o (λ _. Advances self.old self.new)) }
         ensures cause { result ≡ Err VerifyFault.ReadFault → CountRose (S.faults source.old) (S.faults source.new) }
         ensures kept { KeepsSource S.folder S.faults S.misses S.at source.old source.new }

@@ -1,8 +1,8 @@
 use Rattle.ot_scan.specs.Lines.{lines_of}
-use Rattle.std.proofs.Common.{◌≡◌, subst}
+use Rattle.std.proofs.Common.{◌≡◌, refl, subst}
 use Rattle.std.specs.Prelude.{IfOk}
 use Rattle.ot_machine.specs.Contexts.{context_of}
-use Rattle.ot_link.proofs.Parts.{told-as}
+use Rattle.ot_link.proofs.Agreeing.{HasRead-map}
 use Rattle.ot_link.proofs.Ending.{article-ended, article-stopped}
 use Rattle.ot_link.proofs.Lawful.{article-left, article-refused}
 use Rattle.ot_link.proofs.article.run_source.Goals as goal
@@ -13,22 +13,20 @@ run_article-requires-clause-of g c = c.new-machine.ensures.of c.args.session.now
 pub returns-in-Ok-clause-ends : goal.returns-in-Ok-clause-ends
 returns-in-Ok-clause-ends g c =
     let s0 = c.args.session.now in
-    told-as (g.S.Source.left c.args.source.now)
-    (λ bytes h. article-ended s0 c.run_article.new.session c.new-machine.result c.run_article.new.self
+    HasRead-map c.in-Ok.ensures.runs (λ ok. refl)
+    (λ bytes rest h. article-ended s0 c.run_article.new.session c.new-machine.result c.run_article.new.self
     (context_of s0 c.args.context.now) (lines_of c.args.setting.limits.now.article_bytes bytes)
     (c.new-machine.ensures.fresh s0) _ h
     (subst (λ xs. IfOk c.copied.result (λ copy. copy.items ≡ xs)) c.exports.ensures c.copied.ensures.copy)
     c.copied.ensures.memory)
-    c.in-Ok.ensures.runs
 
 pub returns-clause-ends : goal.returns-clause-ends
 returns-clause-ends g c =
     let s0 = c.args.session.now in
-    told-as (g.S.Source.left c.args.source.now)
-    (λ bytes h. article-stopped s0 c.run_article.new.session c.new-machine.result c.run_article.new.self
+    HasRead-map c.in-Err.ensures.runs (λ ok. ok)
+    (λ bytes rest h. article-stopped s0 c.run_article.new.session c.new-machine.result c.run_article.new.self
     (context_of s0 c.args.context.now) (lines_of c.args.setting.limits.now.article_bytes bytes)
     (c.new-machine.ensures.fresh s0) c.in-Err.fault h)
-    c.in-Err.ensures.runs
 
 pub returns-in-Ok-clause-left : goal.returns-in-Ok-clause-left
 returns-in-Ok-clause-left g c =

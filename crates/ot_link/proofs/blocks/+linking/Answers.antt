@@ -9,6 +9,7 @@ use Rattle.std.proofs.lemmas.List.Elements.{All-nil}
 use Rattle.std.proofs.lemmas.Result.{err_from_is_err_and}
 use Rattle.ot_logic.specs.Naming.{IsNameTable}
 use Rattle.ot_io.proofs.Keeping.{KeepsFiles-then}
+use Rattle.ot_io.proofs.Readings.{Files-none, Files-map}
 use Rattle.ot_interp.specs.Interpretation.{map_interpretation}
 use Rattle.ot_kernel.specs.State.{name_at}
 use Rattle.ot_kernel.specs.Alike.{AreFirstPlaces}
@@ -36,6 +37,8 @@ use Rattle.ot_machine.specs.Lawful.{IsLawfulRun}
 use Rattle.ot_machine.specs.Writable.{IsWritable}
 use Rattle.ot_link.specs.Lawful.{AreLawfulExports, AreLawfulOnce}
 use Rattle.ot_link.specs.Running.{chain_of, first_source, opener_of, source_value, IsRunnable, IsSourceRight}
+use Rattle.ot_link.proofs.Agreeing.{Files-next}
+use Rattle.ot_link.proofs.FileParts.{out-of-memory}
 use Rattle.ot_link.proofs.Held.{exports-kept, exports-later, held-done, held-inside}
 use Rattle.ot_link.proofs.InBlock.{given-all, block-context, of_block-context}
 use Rattle.ot_link.proofs.Runnable.{runnable}
@@ -56,10 +59,11 @@ link_file-returns-in_err-text-clause-comes g t c =
     let p = err_from_is_err_and c.from_residual.result c.from_residual.ensures.1 in
     let old = c.args.session.now in
     rw (p.1, p.2)
-    (λ folder e. file-unread old.kernel (setting_of folder c.args.setting)
+    (Files-map _ _ _ (λ folder text. file-unread old.kernel (setting_of folder c.args.setting)
     (opener_of (setting_of folder c.args.setting) c.args.file.now) (string_bytes c.args.file.now.path)
     (context_of old c.args.file.now.outer.now) (run_of old) c.in_err-text.field-0.0
-    (rw c.deref.ensures at (c.in_err-text.ensures.comes folder old.kernel e)))
+    (rw c.deref.ensures at (text old.kernel)))
+    c.in_err-text.ensures.comes)
 
 pub link_file-returns-in_err-text-clause-left : goal.link_file-returns-in_err-text-clause-left
 link_file-returns-in_err-text-clause-left g t c =
@@ -94,11 +98,11 @@ open_package-returns-then-is_open-clause-comes g t c =
     let full = c.args.full.now in
     let there = sym c.if-is_open.true ∙ c.is_open.ensures ∙ any-now full c.deref.result.now
     ∙ ap (λ xs. list_any (bytes_eq full) (chain_of xs)) c.deref.ensures.value in
-    λ folder e. open-again (setting_of folder c.args.setting) (chain_of c.args.file.now.chain.items)
+    Files-none _ _ (λ folder. open-again (setting_of folder c.args.setting) (chain_of c.args.file.now.chain.items)
     (string_bytes c.args.file.now.path) c.args.line full
     (context_of old c.args.context.now) (run_of old) c.args.file.now.left there
     ∙ ap (λ q. Err (InStructure q c.args.line PackageCycle))
-    (sym (c.in_ok-path.ensures.ok ∙ c.deref-then-is_open.ensures))
+    (sym (c.in_ok-path.ensures.ok ∙ c.deref-then-is_open.ensures)))
 
 -- ---- a theory file, further on
 
@@ -107,38 +111,41 @@ link_file-returns-in_err-theory-clause-comes g t c =
     let p = err_from_is_err_and c.from_residual-in_err-theory.result c.from_residual-in_err-theory.ensures.1 in
     let old = c.args.session.now in
     rw (p.1, p.2)
-    (λ folder e. file-unparsed old.kernel (setting_of folder c.args.setting)
+    (Files-map _ _ _ (λ folder text. file-unparsed old.kernel (setting_of folder c.args.setting)
     (opener_of (setting_of folder c.args.setting) c.args.file.now) (string_bytes c.args.file.now.path)
     (context_of old c.args.file.now.outer.now) (run_of old) c.in_ok-text.text.items
-    (rw c.deref.ensures at (c.in_ok-text.ensures.comes folder old.kernel e)) c.in_err-theory.field-0.0
+    (rw c.deref.ensures at (text old.kernel)) c.in_err-theory.field-0.0
     (rw (c.deref-2.ensures, c.deref-3.ensures.value) at (c.in_err-theory.ensures.comes old.kernel)))
+    c.in_ok-text.ensures.comes)
 
 pub link_file-returns-in_err-plan-clause-comes : goal.link_file-returns-in_err-plan-clause-comes
 link_file-returns-in_err-plan-clause-comes g t c =
     let p = err_from_is_err_and c.from_residual-in_err-plan.result c.from_residual-in_err-plan.ensures.1 in
     let old = c.args.session.now in
     rw (p.1, p.2)
-    (λ folder e. file-unplanned old.kernel (setting_of folder c.args.setting)
+    (Files-map _ _ _ (λ folder text. file-unplanned old.kernel (setting_of folder c.args.setting)
     (opener_of (setting_of folder c.args.setting) c.args.file.now) (string_bytes c.args.file.now.path)
     (context_of old c.args.file.now.outer.now) (run_of old) c.in_ok-text.text.items
-    (rw c.deref.ensures at (c.in_ok-text.ensures.comes folder old.kernel e))
+    (rw c.deref.ensures at (text old.kernel))
     (theory_of c.in_ok-theory.theory)
     (rw (c.deref-2.ensures, c.deref-3.ensures.value) at (c.in_ok-theory.ensures.comes old.kernel))
     c.in_err-plan.field-0.0
     (rw (c.deref-4.ensures, c.deref-5.ensures.value) at (c.in_err-plan.ensures.comes old.kernel)))
+    c.in_ok-text.ensures.comes)
 
 pub link_file-returns-clause-comes : goal.link_file-returns-clause-comes
 link_file-returns-clause-comes g t c =
     let old = c.args.session.now in
     let mid = c.run_blocks.new.session in
-    λ folder e. file-ran mid.kernel (setting_of folder c.args.setting)
+    Files-next c.theory_text.ensures.kept c.in_ok-text.ensures.comes
+    (rw c.deref-6.ensures.value at c.run_blocks.ensures.comes)
+    (λ folder text ran. file-ran mid.kernel (setting_of folder c.args.setting)
     (opener_of (setting_of folder c.args.setting) c.args.file.now) (string_bytes c.args.file.now.path)
     (context_of old c.args.file.now.outer.now) (run_of old) c.in_ok-text.text.items
-    (rw c.deref.ensures at (c.in_ok-text.ensures.comes folder old.kernel e))
+    (rw c.deref.ensures at (text old.kernel))
     (theory_of c.in_ok-theory.theory) (plan_of c.in_ok-plan.plan) (ran_of mid) c.run_blocks.result
     (rw (c.deref-2.ensures, c.deref-3.ensures.value) at (c.in_ok-theory.ensures.comes old.kernel))
-    (rw (c.deref-4.ensures, c.deref-5.ensures.value) at (c.in_ok-plan.ensures.comes old.kernel))
-    (rw c.deref-6.ensures.value at (c.run_blocks.ensures.comes folder (c.theory_text.ensures.kept.same_folder ∙ e)))
+    (rw (c.deref-4.ensures, c.deref-5.ensures.value) at (c.in_ok-plan.ensures.comes old.kernel)) ran)
 
 -- ---- a package, further on
 
@@ -148,11 +155,11 @@ open_package-returns-then-file-eq0-clause-comes g t c =
     let full = c.args.full.now in
     let absent = sym c.if-is_open.false ∙ c.is_open.ensures ∙ any-now full c.deref.result.now
     ∙ ap (λ xs. list_any (bytes_eq full) (chain_of xs)) c.deref.ensures.value in
-    λ folder e. open-deep (setting_of folder c.args.setting) (chain_of c.args.file.now.chain.items)
+    Files-none _ _ (λ folder. open-deep (setting_of folder c.args.setting) (chain_of c.args.file.now.chain.items)
     (string_bytes c.args.file.now.path) c.args.line full
     (context_of old c.args.context.now) (run_of old) c.args.file.now.left c.if-file-eq0.true absent
     ∙ ap (λ q. Err (InStructure q c.args.line PackageDepth))
-    (sym (c.in_ok-path-2.ensures.ok ∙ c.deref-then-file-eq0.ensures))
+    (sym (c.in_ok-path-2.ensures.ok ∙ c.deref-then-file-eq0.ensures)))
 
 pub open_package-returns-clause-comes : goal.open_package-returns-clause-comes
 open_package-returns-clause-comes g t c =
@@ -168,7 +175,7 @@ open_package-returns-clause-comes g t c =
     c.in_ok-chain.ensures ∙ ap (λ xs. chain_of xs ++ full ∷ []) c.deref-2.ensures.value in
     let path : string_bytes c.in_ok-path-3.path ≡ package_path c.args.setting.packages.now full =
     c.in_ok-path-3.ensures in
-    λ folder e.
+    Files-map _ _ _ (λ folder ran.
     let s = setting_of folder c.args.setting in
     let same : run_file s (opener (left - 1) s (chain_of c.in_ok-chain.chain.items) (string_bytes c.in_ok-path-3.path)) (string_bytes c.in_ok-path-3.path) context (run_of old)
     ≡ run_file s
@@ -178,15 +185,50 @@ open_package-returns-clause-comes g t c =
     λ i. run_file s (opener (left - 1) s (chain i) (path i)) (path i) context (run_of old) in
     subst (Comes mid.kernel (ran_of mid) c.link_file.result)
     (same ∙ sym (open-inside s (chain_of c.args.file.now.chain.items) (string_bytes c.args.file.now.path) c.args.line
-    full context (run_of old) left (left - 1) more absent))
-    (c.link_file.ensures.comes folder e)
+    full context (run_of old) left (left - 1) more absent)) ran)
+    c.link_file.ensures.comes
 
 -- ---- running out of memory
 
+pub open_package-returns-in_err-path-clause-comes : goal.open_package-returns-in_err-path-clause-comes
+open_package-returns-in_err-path-clause-comes g t c =
+    out-of-memory c.args.session.now.kernel _ _ _ c.from_residual.ensures.1
+
+pub open_package-returns-in_err-path-2-clause-comes : goal.open_package-returns-in_err-path-2-clause-comes
+open_package-returns-in_err-path-2-clause-comes g t c =
+    out-of-memory c.args.session.now.kernel _ _ _ c.from_residual-in_err-path-2.ensures.1
+
+pub open_package-returns-in_err-path-3-clause-comes : goal.open_package-returns-in_err-path-3-clause-comes
+open_package-returns-in_err-path-3-clause-comes g t c =
+    out-of-memory c.args.session.now.kernel _ _ _ c.from_residual-in_err-path-3.ensures.1
+
+pub open_package-returns-in_err-chain-clause-comes : goal.open_package-returns-in_err-chain-clause-comes
+open_package-returns-in_err-chain-clause-comes g t c =
+    out-of-memory c.args.session.now.kernel _ _ _ c.from_residual-in_err-chain.ensures.1
+
+pub run_block-returns-in_err-own-clause-comes : goal.run_block-returns-in_err-own-clause-comes
+run_block-returns-in_err-own-clause-comes g t c =
+    out-of-memory c.interpretation_of.new.session.kernel _ _ _ c.from_residual.ensures.1
+
+pub run_block-returns-in_err-interp-clause-comes : goal.run_block-returns-in_err-interp-clause-comes
+run_block-returns-in_err-interp-clause-comes g t c =
+    out-of-memory c.interpretation_of.new.session.kernel _ _ _ c.from_residual-in_err-interp.ensures.1
+
+pub run_next-returns-in_err-imports-clause-comes : goal.run_next-returns-in_err-imports-clause-comes
+run_next-returns-in_err-imports-clause-comes g t c =
+    out-of-memory c.args.session.now.kernel _ _ _ c.from_residual.ensures.1
+
+pub run_source-returns-in_err-path-in-Article-clause-comes : goal.run_source-returns-in_err-path-in-Article-clause-comes
+run_source-returns-in_err-path-in-Article-clause-comes g t c =
+    out-of-memory c.args.session.now.kernel _ _ _ c.from_residual.ensures.1
+
+pub run_source-returns-in_err-once-in-Imports-clause-comes : goal.run_source-returns-in_err-once-in-Imports-clause-comes
+run_source-returns-in_err-once-in-Imports-clause-comes g t c =
+    out-of-memory c.args.session.now.kernel _ _ _ c.from_residual-in_err-once-in-Imports.ensures.1
+
 pub run_block-returns-in_err-theorems-clause-comes : goal.run_block-returns-in_err-theorems-clause-comes
 run_block-returns-in_err-theorems-clause-comes g t c =
-    let p = err_from_is_err_and c.from_residual-in_err-theorems.result c.from_residual-in_err-theorems.ensures.1 in
-    rw (p.1, p.2) (λ folder e. tt)
+    out-of-memory c.interpretation_of.new.session.kernel _ _ _ c.from_residual-in_err-theorems.ensures.1
 
 pub run_block-returns-in_err-theorems-clause-cause : goal.run_block-returns-in_err-theorems-clause-cause
 run_block-returns-in_err-theorems-clause-cause g t c =
@@ -195,8 +237,7 @@ run_block-returns-in_err-theorems-clause-cause g t c =
 
 pub run_block-returns-in_err-places-clause-comes : goal.run_block-returns-in_err-places-clause-comes
 run_block-returns-in_err-places-clause-comes g t c =
-    let p = err_from_is_err_and c.from_residual-in_err-places.result c.from_residual-in_err-places.ensures.1 in
-    rw (p.1, p.2) (λ folder e. tt)
+    out-of-memory c.interpretation_of.new.session.kernel _ _ _ c.from_residual-in_err-places.ensures.1
 
 pub run_block-returns-in_err-places-clause-cause : goal.run_block-returns-in_err-places-clause-cause
 run_block-returns-in_err-places-clause-cause g t c =
@@ -312,14 +353,15 @@ run_block-returns-clause-comes g t c =
     (subst (λ state. IsNameTable state.names) c.kernel.ensures c.sound.ensures.names) in
     let same = exports-kept old mid kept c.requires.ready.session imports c.requires.imports in
     let run = c.in_ok-own.ensures.run in
-    λ folder e.
+    Files-map _ _ _ (λ folder ran.
     let s = setting_of folder c.args.setting in
     let path = string_bytes c.args.file.now.path in
     let to : run_source s (opener_of s c.args.file.now) path (map (export_of mid) imports) (source_value c.source_of.result) (context_of mid inner) (run_of mid)
     ≡ run_block s (opener_of s c.args.file.now) path (context_of old outer) (block_of c.args.block.now)
     (map (export_of old) imports) (run_of old) =
     λ i. run_source s (opener_of s c.args.file.now) path (same i) (source i) (context i) (run i) in
-    subst (Comes new.kernel (ran_of new) c.run_source.result) to (c.run_source.ensures.comes folder e)
+    subst (Comes new.kernel (ran_of new) c.run_source.result) to ran)
+    c.run_source.ensures.comes
 
 -- ---- blocks in their order
 
@@ -337,15 +379,15 @@ run_blocks-returns-in_err-exports-clause-comes g t c =
     let is : b ≡ get_or order c.each.place-index b = ap (λ xs. get_or xs c.each.place-index 0)
     c.deref-place-items.ensures.value ∙ get_or_default order c.each.place-index 0 b lt in
     rw (p.1, p.2)
-    (λ folder e.
+    (Files-next c.each.invariant.kept c.each.invariant.left c.in_err-exports.ensures.comes
+    (λ folder left stopped.
     let s = setting_of folder c.args.setting in
     one-stopped s (opener_of s c.args.file.now) (string_bytes c.args.file.now.path) (context_of old outer)
     (record { blocks = blocks_of c.args.blocks.now; plan = plan_of c.args.plan.now }) (run_of old)
-    c.each.place-index b (done_of mid c.each.done) (run_of mid) lt is (c.each.invariant.left folder e)
+    c.each.place-index b (done_of mid c.each.done) (run_of mid) lt is left
     (context_of mid outer)
     (context-kept old mid c.requires.ready.session c.each.invariant.grown outer c.requires.ready.context)
-    new.kernel c.in_err-exports.field-0.0
-    (c.in_err-exports.ensures.comes folder (c.each.invariant.kept.same_folder ∙ e)))
+    new.kernel c.in_err-exports.field-0.0 stopped))
 
 pub run_blocks-each-init : goal.run_blocks-each-init
 run_blocks-each-init g t c = record {
@@ -355,7 +397,7 @@ run_blocks-each-init g t c = record {
   lawful = stays-as c.args.session.now c.args.session.now refl c.requires.ready.lawful;
   exports = search rules;
   kept = record { same_folder = refl; later = omega arith; later_misses = omega arith };
-  left = λ folder e.
+  left = Files-none _ _ (λ folder.
       let s = setting_of folder c.args.setting in
       let old = c.args.session.now in
       let f : Planned = record { blocks = blocks_of c.args.blocks.now; plan = plan_of c.args.plan.now } in
@@ -365,7 +407,7 @@ run_blocks-each-init g t c = record {
       let none : done_of old c.new-done.result ≡ none_done =
       λ i b. ap (λ es. map (export_of old) (items_of (lookup (λ key. b == key) es))) c.new-done.ensures.empty i in
       subst (λ done. IsLeft s opener path outer f (run_of old) 0 done (run_of old)) (sym none)
-      (all-left s opener path outer f (run_of old));
+      (all-left s opener path outer f (run_of old)));
 }
 
 pub run_blocks-each-preserved : goal.run_blocks-each-preserved
@@ -393,7 +435,8 @@ run_blocks-each-preserved g t c =
           c.in_ok-insert.ensures.updates.0
           c.each.invariant.inside c.each.invariant.exports c.in_ok-exports.ensures.left.lawful_exports;
       kept = KeepsFiles-then c.each.invariant.kept c.in_ok-exports.ensures.kept;
-      left = λ folder e.
+      left = Files-next c.each.invariant.kept c.each.invariant.left c.in_ok-exports.ensures.comes
+          (λ folder left ran.
           let s = setting_of folder c.args.setting in
           let f : Planned = record { blocks = blocks_of c.args.blocks.now; plan = plan_of c.args.plan.now } in
           subst (λ done. IsLeft s (opener_of s c.args.file.now) (string_bytes c.args.file.now.path)
@@ -402,11 +445,10 @@ run_blocks-each-preserved g t c =
           c.in_ok-exports.exports c.in_ok-insert.ensures.updates.0 c.each.invariant.inside))
           (one-ran s (opener_of s c.args.file.now) (string_bytes c.args.file.now.path) (context_of old outer) f
           (run_of old)
-          c.each.place-index b (done_of mid c.each.done) (run_of mid) lt is (c.each.invariant.left folder e)
+          c.each.place-index b (done_of mid c.each.done) (run_of mid) lt is left
           (context_of mid outer)
           (context-kept old mid c.requires.ready.session c.each.invariant.grown outer c.requires.ready.context)
-          (ran_of new c.in_ok-exports.exports)
-          (c.in_ok-exports.ensures.comes folder (c.each.invariant.kept.same_folder ∙ e)));
+          (ran_of new c.in_ok-exports.exports) ran));
     }
 
 pub run_blocks-returns-clause-comes : goal.run_blocks-returns-clause-comes
@@ -423,12 +465,13 @@ run_blocks-returns-clause-comes g t c =
     ∙ sym (exports-as mid c.each.done (position (λ b. bytes_eq b.name.now (codes "main")) blocks))
     ∙ ap (map (export_of mid)) (sym c.in_ok-exports-2.ensures) in
     let ran : List Export → Ran = λ es. record { exports = es; run = run_of mid } in
-    λ folder e.
+    Files-map _ _ _ (λ folder left.
     let s = setting_of folder c.args.setting in
     all-ran s (opener_of s c.args.file.now) (string_bytes c.args.file.now.path) (context_of old outer)
     (record { blocks = blocks_of blocks; plan = plan_of c.args.plan.now }) (run_of old)
-    c.each.place-index (done_of mid c.each.done) (run_of mid) none (c.each.invariant.left folder e)
-    ∙ ap (λ es. Ok (ran es)) exports
+    c.each.place-index (done_of mid c.each.done) (run_of mid) none left
+    ∙ ap (λ es. Ok (ran es)) exports)
+    c.each.invariant.left
 
 -- ---- the next block
 
@@ -466,7 +509,7 @@ run_next-returns-in-Some-clause-comes g t c =
     let imports : map (export_of old) c.deref.result.now ≡ imported (plan_of c.args.plan.now).imports (done_of old c.args.done.now) c.args.place =
     ap (map (export_of old)) (c.deref.ensures.value ∙ c.in_ok-imports.ensures) ∙ imported-as old c.args.done.now
     c.imports_at.result.now ∙ ap (flat_map (done_of old c.args.done.now)) c.imports_at.ensures in
-    λ folder e.
+    Files-map _ _ _ (λ folder ran.
     let s = setting_of folder c.args.setting in
     let to : run_block s (opener_of s c.args.file.now) path outer (block_of c.in-Some.block.now) (map (export_of old) c.deref.result.now) (run_of old)
     ≡ run_at s (opener_of s c.args.file.now) path outer
@@ -477,7 +520,8 @@ run_next-returns-in-Some-clause-comes g t c =
     ∙ ap (λ o. run_at s (opener_of s c.args.file.now) path outer
     (imported (plan_of c.args.plan.now).imports (done_of old c.args.done.now) c.args.place) o (run_of old))
     (sym there) in
-    subst (Comes new.kernel (ran_of new) c.run_block.result) to (c.run_block.ensures.comes folder e)
+    subst (Comes new.kernel (ran_of new) c.run_block.result) to ran)
+    c.run_block.ensures.comes
 
 pub run_next-returns-clause-comes : goal.run_next-returns-clause-comes
 run_next-returns-clause-comes g t c =
@@ -486,12 +530,12 @@ run_next-returns-clause-comes g t c =
     let path = string_bytes c.args.file.now.path in
     let none = block-none c.args.blocks.now c.args.place c.in-None.ensures.lookup.3 in
     let ran : List code.Export → Ran = λ es. record { exports = map (export_of old) es; run = run_of old } in
-    λ folder e.
+    Files-none _ _ (λ folder.
     let s = setting_of folder c.args.setting in
     ap (λ o. (run_at s (opener_of s c.args.file.now) path outer
     (imported (plan_of c.args.plan.now).imports (done_of old c.args.done.now) c.args.place) o
     (run_of old)).answer) none
-    ∙ ap (λ es. Ok (ran es)) (sym c.new.ensures.items)
+    ∙ ap (λ es. Ok (ran es)) (sym c.new.ensures.items))
 
 -- ---- an article
 
@@ -502,14 +546,30 @@ run_source-returns-in_ok-path-in-Article-clause-comes g t c =
     let context = context_of old c.args.context.now in
     let imports = map (export_of old) c.args.imports.now in
     let path = string_bytes c.args.file.now.path in
-    λ folder e.
+    Files-map _ _ _ (λ folder ran.
     let s = setting_of folder c.args.setting in
     let to : run_article s (string_bytes c.in_ok-path-in-Article.path) context (run_of old) ≡ run_source s (opener_of s c.args.file.now) path imports (source_value c.args.source) context (run_of old) =
     ap (λ q. run_article s q context (run_of old))
     (c.in_ok-path-in-Article.ensures ∙ ap (λ q. article_path q c.in-Article.value.now) c.deref.ensures)
     ∙ ap (λ source. run_source s (opener_of s c.args.file.now) path imports (source_value source) context
     (run_of old)) (sym c.in-Article.is) in
-    subst (Comes new.kernel (ran_of new) c.run_article.result) to (c.run_article.ensures.comes folder e)
+    subst (Comes new.kernel (ran_of new) c.run_article.result) to ran)
+    c.run_article.ensures.comes
+
+-- ---- a block's imports
+
+pub run_source-returns-in_ok-once-in-Imports-clause-comes : goal.run_source-returns-in_ok-once-in-Imports-clause-comes
+run_source-returns-in_ok-once-in-Imports-clause-comes g t c =
+    let old = c.args.session.now in
+    let context = context_of old c.args.context.now in
+    let imports = map (export_of old) c.args.imports.now in
+    let path = string_bytes c.args.file.now.path in
+    let ran : List Export → Ran = λ es. record { exports = es; run = run_of old } in
+    Files-none _ _ (λ folder.
+    let s = setting_of folder c.args.setting in
+    ap (λ source. (run_source s (opener_of s c.args.file.now) path imports (source_value source) context
+    (run_of old)).answer) c.in-Imports.is
+    ∙ ap (λ es. Ok (ran es)) (sym c.in_ok-once-in-Imports.ensures.once))
 
 -- ---- lawful sessions
 

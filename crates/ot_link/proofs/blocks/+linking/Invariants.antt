@@ -1,8 +1,8 @@
-use Rattle.std.proofs.Common.{◌≡◌, ◌+◌, ◌*◌, ℕ, Some}
+use Rattle.std.proofs.Common.{◌+◌, ◌*◌, ℕ}
 use Rattle.std.specs.Prelude.{string_bytes}
 use Rattle.std.specs.List.{All}
-use Rattle.ot_io.specs.Folder.{Folder}
 use Rattle.ot_io.specs.Keeping.{KeepsFiles}
+use Rattle.ot_io.specs.Readings.{HasReadFiles}
 use Rattle.ot_theory.specs.Answers.{blocks_of}
 use Rattle.ot_blocks.specs.Answers.{plan_of}
 use Rattle.ot_machine.specs.Meaning.{run_of, IsRun, IsExportIn, Grows}
@@ -22,11 +22,11 @@ invariant-run_blocks-each g l = record {
   lawful : StaysLawful l.fn.session l.session;
   exports : (b : ℕ) → AreLawfulOnce l.session (held_at l.done b);
   kept : KeepsFiles g.F.Source.folder g.F.Source.faults g.F.Source.misses l.fn.files l.files;
-  left : (folder : Folder) → g.F.Source.folder l.fn.files ≡ Some folder →
+  left : HasReadFiles (g.F.Source.folder l.fn.files) (λ folder.
       IsLeft (setting_of folder l.setting) (opener_of (setting_of folder l.setting) l.file) (string_bytes l.file.path)
       (context_of l.fn.session l.file.outer.now)
       (record { blocks = blocks_of l.blocks; plan = plan_of l.plan }) (run_of l.fn.session) l.place-index
-      (done_of l.session l.done) (run_of l.session);
+      (done_of l.session l.done) (run_of l.session));
 }
 
 -- a package that is opened leaves one package less to be opened

@@ -6,6 +6,7 @@ use Rattle.std.proofs.lemmas.List.{map-append}
 use Rattle.std.proofs.lemmas.Result.{err_from_is_err_and}
 use Rattle.ot_logic.specs.Lists.{IsMember}
 use Rattle.ot_io.proofs.Keeping.{KeepsFiles-then}
+use Rattle.ot_io.proofs.Readings.{Files-none, Files-map}
 use Rattle.ot_repo.specs.Walk.{walk_from}
 use Rattle.ot_repo.specs.Required.{edges_of, walked}
 use Rattle.ot_repo.specs.Answers.{ArePackages, names_of}
@@ -15,9 +16,10 @@ use Rattle.ot_repo.specs.declared.requirements.File.{File}
 use Rattle.ot_repo.proofs.Picking.{packages_more}
 use Rattle.ot_repo.proofs.Rest.{rest_start}
 use Rattle.ot_repo.proofs.SoFar.{SoFar, Rests}
-use Rattle.ot_repo.proofs.Steps.{rests_known, rests_refused, rests_stopped, rests_new, rests_end, edges_popped}
-use Rattle.ot_repo.proofs.Steps.{no_edges, pushed, carried, start_so_far, popped_listed, left_so_far}
+use Rattle.ot_repo.proofs.Steps.{rests_known, rests_refused, rests_stopped, rests_new, rests_end, rests_done}
+use Rattle.ot_repo.proofs.Steps.{edges_popped, empty, no_edges, pushed, carried, start_so_far, popped_listed, left_so_far}
 use Rattle.ot_repo.proofs.Steps.{next_unmarked, opened, finished, smaller_opened, smaller_finished, walk_ends}
+use Rattle.ot_repo.proofs.Agreeing.{Files-next}
 use Rattle.ot_repo.proofs.Reached.{ReachedSoFar, fails_more, inside_fails, next_reached}
 use Rattle.ot_repo.proofs.Reached.{reached_left, reached_opened, reached_finished}
 use Rattle.ot_repo.proofs.walk.walk.Goals as goal
@@ -29,22 +31,23 @@ walk-init g c =
     (record {
       so_far = start_so_far listed (mark_in c.new-marks.result) c.args.first
           (λ q. first_of (search rules, grind (arith, common_steps))) c.requires.first;
-      rests = λ folder told.
-          record {
-            bound = length listed;
-            is = rest_start bytes_eq (edges_of folder c.args.setting.max_bytes c.args.setting.packages.now listed)
-                (length listed) (edges_left c.args.first);
-          };
+      walks = Files-none _ _ (λ folder. record {
+        rests = record {
+          bound = length listed;
+          is = rest_start bytes_eq (edges_of folder c.args.setting.max_bytes c.args.setting.packages.now listed)
+              (length listed) (edges_left c.args.first);
+        };
+        reached = record { here = λ e m. inl m; below = λ w m. absurd m };
+      });
       full = λ full m. absurd m;
-      reached = λ folder told. record { here = λ e m. inl m; below = λ w m. absurd m };
       kept = record { same_folder = refl; later = omega arith; later_misses = omega arith };
     })
 
 pub returns-in_err-full-in-Some-clause-order : goal.returns-in_err-full-in-Some-clause-order
-returns-in_err-full-in-Some-clause-order g c = λ folder told.
+returns-in_err-full-in-Some-clause-order g c =
     let listed = listed_in c.args.index.now in
-    let edges = edges_of folder c.args.setting.max_bytes c.args.setting.packages.now listed in
-    let whole = walk_from bytes_eq edges (length listed) (edges_left c.args.first) in
+    let packages = c.args.setting.packages.now in
+    let start = edges_left c.args.first in
     let marked = mark_in c.walk.marks in
     let r = c.in-Some.requirement in
     let left : File = record { path = c.walk.file.path; left = c.pop.new.self } in
@@ -53,10 +56,18 @@ returns-in_err-full-in-Some-clause-order g c = λ folder told.
     let refused = rw c.deref.ensures at c.in_err-full-in-Some.ensures.next in
     let p = err_from_is_err_and c.from_residual.result c.from_residual.ensures.1 in
     rw (p.1, p.2)
-    (carried c.in_err-full-in-Some.field-0.0 (next_at marked edge) (walked whole)
-    (λ fault next. rests_refused edges whole marked (reverse c.walk.below.items) c.walk.file left
-    (names_of c.walk.done) c.walk.invariant.so_far.marks edge cut (c.walk.invariant.rests folder told) fault next)
-    refused)
+    (Files-map _ _ _ (λ folder walks.
+    let edges = edges_of folder c.args.setting.max_bytes packages listed in
+    let whole = walk_from bytes_eq edges (length listed) start in
+    record {
+      gives = carried c.in_err-full-in-Some.field-0.0 (next_at marked edge) (walked whole)
+          (λ fault next. rests_refused edges whole marked (reverse c.walk.below.items) c.walk.file left
+          (names_of c.walk.done) c.walk.invariant.so_far.marks edge cut walks.rests fault next)
+          refused;
+      fails = inside_fails (IsReachedFile edges start packages) c.in_err-full-in-Some.field-0.0
+          c.in_err-full-in-Some.ensures.inside;
+    })
+    c.walk.invariant.walks)
 
 pub package_file-requires-clause-full : goal.package_file-requires-clause-full
 package_file-requires-clause-full g c =
@@ -67,10 +78,11 @@ package_file-requires-clause-full g c =
     c.walk.invariant.so_far.left c.in-Some-2.full own)
 
 pub returns-in_err-above-in-Some-clause-order : goal.returns-in_err-above-in-Some-clause-order
-returns-in_err-above-in-Some-clause-order g c = λ folder told.
+returns-in_err-above-in-Some-clause-order g c =
     let listed = listed_in c.args.index.now in
-    let edges = edges_of folder c.args.setting.max_bytes c.args.setting.packages.now listed in
-    let whole = walk_from bytes_eq edges (length listed) (edges_left c.args.first) in
+    let packages = c.args.setting.packages.now in
+    let start = edges_left c.args.first in
+    let below = reverse c.walk.below.items in
     let marked = mark_in c.walk.marks in
     let r = c.in-Some.requirement in
     let full = c.in-Some-2.full in
@@ -78,16 +90,25 @@ returns-in_err-above-in-Some-clause-order g c = λ folder told.
     let edge = edge_at (string_bytes c.walk.file.path) r in
     let cut = edges_popped c.walk.file left r refl c.in-Some.ensures.items in
     let next = rw (c.deref.ensures, c.in-Some-2.is) at c.in_ok-full-in-Some.ensures.next in
-    let deep = walk_ends folder c.args.setting.max_bytes c.args.setting.packages.now listed c.args.first
-    c.requires.first in
     let p = err_from_is_err_and c.from_residual-in_err-above-in-Some.result
     c.from_residual-in_err-above-in-Some.ensures.1 in
     rw (p.1, p.2)
-    (carried c.in_err-above-in-Some.field-0.0 (edges full.now) (walked whole)
-    (λ fault are. rests_stopped edges whole marked (reverse c.walk.below.items) c.walk.file left
-    (names_of c.walk.done) c.walk.invariant.so_far.marks edge cut deep full.now next
-    (c.walk.invariant.rests folder told) fault are)
-    (c.in_err-above-in-Some.ensures.edges folder (c.walk.invariant.kept.same_folder ∙ told)))
+    (Files-next c.walk.invariant.kept c.walk.invariant.walks c.in_err-above-in-Some.ensures.edges
+    (λ folder walks refused.
+    let edges = edges_of folder c.args.setting.max_bytes packages listed in
+    let whole = walk_from bytes_eq edges (length listed) start in
+    let deep = walk_ends folder c.args.setting.max_bytes packages listed c.args.first c.requires.first in
+    let reached = next_reached edges start marked below c.walk.file left edge full.now cut next walks.reached in
+    record {
+      gives = carried c.in_err-above-in-Some.field-0.0 (edges full.now) (walked whole)
+          (λ fault are. rests_stopped edges whole marked below c.walk.file left (names_of c.walk.done)
+          c.walk.invariant.so_far.marks edge cut deep full.now next walks.rests fault are)
+          refused;
+      fails = fails_more (λ failed. failed ≡ package_path packages full.now) (IsReachedFile edges start packages)
+          c.in_err-above-in-Some.field-0.0
+          (λ failed is. record { full = full.now; reached = reached; file_is = is })
+          c.in_err-above-in-Some.ensures.failure;
+    }))
 
 pub walk-smaller-in-Some-2 : goal.walk-smaller-in-Some-2
 walk-smaller-in-Some-2 g c =
@@ -124,23 +145,21 @@ walk-preserved-in-Some-2 g c =
           c.walk.file above r c.in-Some.ensures.items own (next_unmarked marked edge full.now next)
           (λ q. c.in_ok-insert-in-Some.ensures.updates.0 (record { ref_ptr = (0, 0); now = q }))
           c.in_ok-above-in-Some.ensures.listed c.walk.invariant.so_far;
-      rests = λ folder told.
-          rests_new (edges_of folder c.args.setting.max_bytes c.args.setting.packages.now listed)
-          (walk_from bytes_eq (edges_of folder c.args.setting.max_bytes c.args.setting.packages.now listed)
-          (length listed) (edges_left c.args.first))
-          marked (reverse c.walk.below.items) c.walk.file left (names_of c.walk.done) c.walk.invariant.so_far.marks
-          edge cut
-          (walk_ends folder c.args.setting.max_bytes c.args.setting.packages.now listed c.args.first c.requires.first)
-          full.now next
-          (c.walk.invariant.rests folder told) (record { file = left; full = full }) above refl
-          (c.in_ok-above-in-Some.ensures.edges folder (c.walk.invariant.kept.same_folder ∙ told));
+      walks = Files-next c.walk.invariant.kept c.walk.invariant.walks c.in_ok-above-in-Some.ensures.edges
+          (λ folder walks are.
+          let edges = edges_of folder c.args.setting.max_bytes c.args.setting.packages.now listed in
+          let start = edges_left c.args.first in
+          let below = reverse c.walk.below.items in
+          record {
+            rests = rests_new edges (walk_from bytes_eq edges (length listed) start) marked below c.walk.file left
+                (names_of c.walk.done) c.walk.invariant.so_far.marks edge cut
+                (walk_ends folder c.args.setting.max_bytes c.args.setting.packages.now listed c.args.first
+                c.requires.first)
+                full.now next walks.rests (record { file = left; full = full }) above refl are;
+            reached = reached_opened edges start marked below c.walk.file above (record { file = left; full = full })
+                edge full.now cut next are walks.reached;
+          });
       full = c.walk.invariant.full;
-      reached = λ folder told.
-          reached_opened (edges_of folder c.args.setting.max_bytes c.args.setting.packages.now listed)
-          (edges_left c.args.first) marked (reverse c.walk.below.items)
-          c.walk.file above (record { file = left; full = full }) edge full.now cut next
-          (c.in_ok-above-in-Some.ensures.edges folder (c.walk.invariant.kept.same_folder ∙ told))
-          (c.walk.invariant.reached folder told);
       kept = KeepsFiles-then c.walk.invariant.kept c.in_ok-above-in-Some.ensures.kept;
     })
 
@@ -156,17 +175,17 @@ walk-preserved-in_default g c =
     record {
       so_far = left_so_far listed marked (reverse c.walk.below.items) c.walk.file left r (names_of c.walk.done)
           c.in-Some.ensures.items c.walk.invariant.so_far;
-      rests = λ folder told.
-          rests_known (edges_of folder c.args.setting.max_bytes c.args.setting.packages.now listed)
-          (walk_from bytes_eq (edges_of folder c.args.setting.max_bytes c.args.setting.packages.now listed)
-          (length listed) (edges_left c.args.first))
-          marked (reverse c.walk.below.items) c.walk.file left (names_of c.walk.done) c.walk.invariant.so_far.marks
-          edge cut (c.walk.invariant.rests folder told) next;
+      walks = Files-map _ _ _ (λ folder walks.
+          let edges = edges_of folder c.args.setting.max_bytes c.args.setting.packages.now listed in
+          let start = edges_left c.args.first in
+          let below = reverse c.walk.below.items in
+          record {
+            rests = rests_known edges (walk_from bytes_eq edges (length listed) start) marked below c.walk.file left
+                (names_of c.walk.done) c.walk.invariant.so_far.marks edge cut walks.rests next;
+            reached = reached_left edges start below c.walk.file left edge cut walks.reached;
+          })
+          c.walk.invariant.walks;
       full = c.walk.invariant.full;
-      reached = λ folder told.
-          reached_left (edges_of folder c.args.setting.max_bytes c.args.setting.packages.now listed)
-          (edges_left c.args.first) (reverse c.walk.below.items) c.walk.file left edge cut
-          (c.walk.invariant.reached folder told);
       kept = c.walk.invariant.kept;
     }
 
@@ -205,47 +224,36 @@ walk-preserved g c =
           (finished listed marked (mark_in c.insert-in-Some-pop.new.self) below (names_of c.walk.done) w c.walk.file
           (λ q. c.in_ok-insert-in-Some-pop.ensures.updates.0 (record { ref_ptr = (0, 0); now = q }))
           (subst (λ ws. SoFar listed marked ws c.walk.file (names_of c.walk.done)) stack c.walk.invariant.so_far));
-      rests = λ folder told.
+      walks = Files-map _ _ _ (λ folder walks.
           let edges = edges_of folder c.args.setting.max_bytes c.args.setting.packages.now listed in
-          let whole = walk_from bytes_eq edges (length listed) (edges_left c.args.first) in
-          subst (Rests edges whole below w.file) (sym more)
-          (rests_end edges whole c.walk.file (names_of c.walk.done) none w below
-          (subst (λ ws. Rests edges whole ws c.walk.file (names_of c.walk.done)) stack
-          (c.walk.invariant.rests folder told)));
+          let start = edges_left c.args.first in
+          let whole = walk_from bytes_eq edges (length listed) start in
+          record {
+            rests = subst (Rests edges whole below w.file) (sym more)
+                (rests_end edges whole c.walk.file (names_of c.walk.done) none w below
+                (subst (λ ws. Rests edges whole ws c.walk.file (names_of c.walk.done)) stack walks.rests));
+            reached = reached_finished edges start below c.walk.file w
+                (subst (λ ws. ReachedSoFar edges start ws c.walk.file) stack walks.reached);
+          })
+          c.walk.invariant.walks;
       full = subst ArePackages (sym more) (packages_more (names_of c.walk.done) w.full.now c.walk.invariant.full
           (c.requires.index.full w.full.now
           (c.walk.invariant.so_far.levels w (subst (IsMember w) (sym stack) (inl refl))).full));
-      reached = λ folder told.
-          let edges = edges_of folder c.args.setting.max_bytes c.args.setting.packages.now listed in
-          reached_finished edges (edges_left c.args.first) below c.walk.file w
-          (subst (λ ws. ReachedSoFar edges (edges_left c.args.first) ws c.walk.file) stack
-          (c.walk.invariant.reached folder told));
       kept = c.walk.invariant.kept;
     }
 
-pub returns-in_err-full-in-Some-clause-failure : goal.returns-in_err-full-in-Some-clause-failure
-returns-in_err-full-in-Some-clause-failure g c = λ folder told.
-    let packages = c.args.setting.packages.now in
-    let edges = edges_of folder c.args.setting.max_bytes packages (listed_in c.args.index.now) in
-    let p = err_from_is_err_and c.from_residual.result c.from_residual.ensures.1 in
-    rw (p.1, p.2) (inside_fails (IsReachedFile edges (edges_left c.args.first) packages)
-    c.in_err-full-in-Some.field-0.0 c.in_err-full-in-Some.ensures.inside)
-
-pub returns-in_err-above-in-Some-clause-failure : goal.returns-in_err-above-in-Some-clause-failure
-returns-in_err-above-in-Some-clause-failure g c = λ folder told.
-    let packages = c.args.setting.packages.now in
-    let edges = edges_of folder c.args.setting.max_bytes packages (listed_in c.args.index.now) in
-    let r = c.in-Some.requirement in
-    let full = c.in-Some-2.full.now in
-    let left : File = record { path = c.walk.file.path; left = c.pop.new.self } in
-    let edge = edge_at (string_bytes c.walk.file.path) r in
-    let cut = edges_popped c.walk.file left r refl c.in-Some.ensures.items in
-    let next = rw (c.deref.ensures, c.in-Some-2.is) at c.in_ok-full-in-Some.ensures.next in
-    let reached = next_reached edges (edges_left c.args.first) (mark_in c.walk.marks) (reverse c.walk.below.items)
-    c.walk.file left edge full cut next (c.walk.invariant.reached folder told) in
-    let p = err_from_is_err_and c.from_residual-in_err-above-in-Some.result
-    c.from_residual-in_err-above-in-Some.ensures.1 in
-    rw (p.1, p.2)
-    (fails_more (λ failed. failed ≡ package_path packages full)
-    (IsReachedFile edges (edges_left c.args.first) packages) c.in_err-above-in-Some.field-0.0
-    (λ failed is. record { full = full; reached = reached; file_is = is }) c.in_err-above-in-Some.ensures.failure)
+pub returns-in-None-pop-clause-order : goal.returns-in-None-pop-clause-order
+returns-in-None-pop-clause-order g c =
+    let listed = listed_in c.args.index.now in
+    let file = c.walk.file in
+    let none = no_edges file (omega (arith, file.left.ok.0, c.in-None.ensures.cases.0)) in
+    let last : reverse c.walk.below.items ≡ [] =
+    ap reverse (empty c.walk.below.items (omega (arith, c.walk.below.ok.0, c.in-None-pop.ensures.cases.0))) in
+    Files-map _ _ _ (λ folder walks.
+    let edges = edges_of folder c.args.setting.max_bytes c.args.setting.packages.now listed in
+    record {
+      gives = rests_done edges (walk_from bytes_eq edges (length listed) (edges_left c.args.first)) file
+          (names_of c.walk.done) none (reverse c.walk.below.items) last walks.rests;
+      fails = tt;
+    })
+    c.walk.invariant.walks

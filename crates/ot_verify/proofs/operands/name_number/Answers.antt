@@ -4,21 +4,14 @@ use Rattle.ot_verify.proofs.operands.name_number.Goals as goal
 
 pub returns-in-Ok-intern-clause-answered : goal.returns-in-Ok-intern-clause-answered
 returns-in-Ok-intern-clause-answered g c =
-    numbered c.args.log.now.state c.intern.new.self c.args.reader.now c.name.new.self c.in-Ok.name
-    c.in-Ok-intern.number (g.S.Source.left c.args.source.now) (g.S.Source.left c.name.new.source)
-    (c.in-Ok.ensures.answered c.args.log.now.state) c.in-Ok-intern.ensures.ok
+    numbered c.intern.new.self (c.in-Ok.ensures.answered c.args.log.now.state) c.in-Ok-intern.ensures.ok
 
 pub returns-in-Err-intern-clause-answered : goal.returns-in-Err-intern-clause-answered
 returns-in-Err-intern-clause-answered g c =
-    numbered-memory c.args.log.now.state c.intern.new.self c.args.reader.now c.name.new.self c.in-Ok.name
-    (g.S.Source.left c.args.source.now) (g.S.Source.left c.name.new.source)
-    (c.in-Ok.ensures.answered c.args.log.now.state)
+    numbered-memory c.intern.new.self (c.in-Ok.ensures.answered c.args.log.now.state)
 
 pub returns-in-Err-clause-answered : goal.returns-in-Err-clause-answered
-returns-in-Err-clause-answered g c =
-    numbered-stop c.args.log.now.state c.args.log.now c.args.reader.now c.name.new.self c.in-Err.fault
-    (g.S.Source.left c.args.source.now) (g.S.Source.left c.name.new.source)
-    (c.in-Err.ensures.answered c.args.log.now.state)
+returns-in-Err-clause-answered g c = numbered-stop c.args.log.now (c.in-Err.ensures.answered c.args.log.now.state)
 
 pub returns-in-Err-clause-meets : goal.returns-in-Err-clause-meets
 returns-in-Err-clause-meets g c = meets-nothing c.args.log.now

@@ -1,29 +1,20 @@
-use Rattle.ot_logic.specs.Naming.{names}
-use Rattle.ot_records.specs.Steps.{eq_mp_step}
-use Rattle.ot_records.specs.State.{makes_sequent}
-use Rattle.ot_records.specs.Records.{Makes, AskSequent}
-use Rattle.ot_verify.specs.Asking.{IsAt}
-use Rattle.ot_verify.specs.Logged.{settled_at}
-use Rattle.ot_verify.proofs.Recording.{answered-then, made-settled}
+use Rattle.std.proofs.Common.{refl}
+use Rattle.ot_verify.proofs.Recording.{answered-then, answered-stop, made-settled}
 use Rattle.ot_verify.proofs.records.eq_mp.Goals as goal
 
 pub returns-clause-recorded : goal.returns-clause-recorded
 returns-clause-recorded g c =
-    let st = c.args.log.now.state in
-    let now = c.eq_mp-made.new.self.state in
-    let first = c.args.first in
-    let made = c.eq_mp-made.result in
     rw c.settle.ensures
-    (answered-then st now AskSequent (IsAt c.args.log.now.state.sequents) c.in_ok-equation.equation
-    (λ x0. AskSequent (λ x1. Makes (makes_sequent names (eq_mp_step names x0 x1)))) first (settled_at first made)
-    c.args.reader.now c.sequent_number.new.reader c.sequent_number-2.new.reader (g.S.Source.left c.args.source.now)
-    (g.S.Source.left c.sequent_number.new.source) (g.S.Source.left c.sequent_number-2.new.source)
-    c.in_ok-equation.ensures.answered
-    (λ x0 h0. answered-then st now AskSequent (IsAt c.args.log.now.state.sequents) c.in_ok-other.other
-    (λ x1. Makes (makes_sequent names (eq_mp_step names x0 x1))) first (settled_at first made)
-    c.sequent_number.new.reader
-    c.sequent_number-2.new.reader c.sequent_number-2.new.reader (g.S.Source.left c.sequent_number.new.source)
-    (g.S.Source.left c.sequent_number-2.new.source) (g.S.Source.left c.sequent_number-2.new.source)
-    c.in_ok-other.ensures.answered
-    (λ x1 h1. made-settled (makes_sequent names (eq_mp_step names x0 x1)) first st now c.sequent_number-2.new.reader
-    (g.S.Source.left c.sequent_number-2.new.source) made (c.eq_mp-made.ensures x0 x1 h0 h1))))
+    (answered-then refl _ c.in_ok-equation.ensures.answered
+    (λ x0 h0. answered-then refl _ c.in_ok-other.ensures.answered
+    (λ x1 h1. made-settled refl c.eq_mp-made.result (c.eq_mp-made.ensures x0 x1 h0 h1))))
+
+pub returns-in_err-equation-clause-recorded : goal.returns-in_err-equation-clause-recorded
+returns-in_err-equation-clause-recorded g c =
+    answered-stop refl _ c.from_residual.result c.from_residual.ensures.1 c.in_err-equation.ensures.answered
+
+pub returns-in_err-other-clause-recorded : goal.returns-in_err-other-clause-recorded
+returns-in_err-other-clause-recorded g c =
+    answered-then refl _ c.in_ok-equation.ensures.answered
+    (λ x0 h0. answered-stop refl _ c.from_residual-in_err-other.result c.from_residual-in_err-other.ensures.1
+    c.in_err-other.ensures.answered)

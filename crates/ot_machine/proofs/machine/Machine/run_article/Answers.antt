@@ -1,18 +1,17 @@
-use Rattle.std.specs.Prelude.{Ok, IfOk, IfSome}
+use Rattle.std.specs.Prelude.{Ok, Err}
 use Rattle.std.proofs.Common.{◌≡◌, ◌∙◌, sym, ap, subst}
 use Rattle.ot_io.proofs.Keeping.{KeepsSource-then}
-use Rattle.ot_scan.specs.Lines.{TakesFrom, IsLineText}
+use Rattle.ot_scan.specs.Lines.{TakesFrom}
 use Rattle.ot_machine.specs.Meaning.{state_of}
 use Rattle.ot_machine.specs.Contexts.{context_of}
 use Rattle.ot_machine.specs.Run.{line_step}
-use Rattle.ot_machine.specs.Commanded.{LeadsTo}
-use Rattle.ot_machine.proofs.Commanded.{leads-line}
+use Rattle.ot_machine.proofs.Led.{read-leads}
 use Rattle.ot_machine.specs.Answers.{Refuses}
 use Rattle.ot_machine.specs.declared.fault.Fault.TheVariants.{Memory}
 use Rattle.ot_machine.specs.declared.fault.ArticleFault.TheVariants.{At}
 use Rattle.ot_machine.proofs.Kept.{grows-on}
 use Rattle.ot_machine.proofs.InContext.{context-kept, of_context-kept}
-use Rattle.ot_machine.proofs.Followed.{follows-end, follows-spent, follows-line, follows-refused}
+use Rattle.ot_machine.proofs.Followed.{follows-none, follows-end, follows-line, follows-refused}
 use Rattle.ot_machine.proofs.Followed.{follows-stopped, refused-apart, stopped-apart}
 use Rattle.ot_machine.proofs.machine.Machine.run_article.Goals as goal
 
@@ -26,16 +25,6 @@ returns-in-Ok-None-clause-runs g c =
     (state_of c.args.session.now c.args.self.now) c.lines.session.kernel (state_of c.lines.session c.lines.self)
     c.lines.lines c.next.follows.lender-at-none (g.S.Source.left c.args.source.now) before after
     c.lines.invariant.so_far taken
-
-pub returns-in-Ok-None-clause-spent : goal.returns-in-Ok-None-clause-spent
-returns-in-Ok-None-clause-spent g c =
-    let before = g.S.Source.left c.lines.source in
-    let after = g.S.Source.left c.next.new.source in
-    let taken = subst (λ r. TakesFrom r c.lines.lines c.next.follows.lender-at-none before after)
-    (c.in-Ok-None.is ∙ ap Ok c.in-Ok-None.field-0-is) c.next.follows.holds-at-none.0 in
-    follows-spent (context_of c.args.session.now c.args.context.now) c.args.max_bytes
-    (state_of c.args.session.now c.args.self.now) (state_of c.lines.session c.lines.self) c.lines.lines
-    c.next.follows.lender-at-none (g.S.Source.left c.args.source.now) before after c.lines.invariant.so_far taken
 
 pub returns-in-Err-line-clause-runs : goal.returns-in-Err-line-clause-runs
 returns-in-Err-line-clause-runs g c =
@@ -71,15 +60,6 @@ lines-preserved g c =
           (g.S.Source.left c.args.source.now) before after c.lines.invariant.so_far taken
           (ap (λ x. line_step x (state_of c.lines.session c.lines.self) c.in-Ok-Some.line.text.now) (sym same)
           ∙ c.in_default.ensures.moves);
-      led = leads-line (context_of c.args.session.now c.args.context.now)
-          (state_of c.args.session.now c.args.self.now)
-          (state_of c.lines.session c.lines.self) (state_of c.line.new.session c.line.new.self)
-          c.in-Ok-Some.line.text.now
-          (subst (λ r. IfOk r (λ o. IfSome o (λ line. IsLineText line.text.now)))
-          (c.in-Ok-Some.is ∙ ap Ok c.in-Ok-Some.field-0-is) c.next.ensures.fits)
-          c.lines.invariant.led
-          (ap (λ x. line_step x (state_of c.lines.session c.lines.self) c.in-Ok-Some.line.text.now) (sym same)
-          ∙ c.in_default.ensures.moves);
       of = c.line.ensures.of;
       grown = grows-on c.lines.invariant.grown c.line.ensures.grown;
       kept = KeepsSource-then c.lines.invariant.kept c.next.ensures.kept;
@@ -104,10 +84,23 @@ line-requires-clause-context g c = of_context-kept c.args.session.now c.lines.se
 pub returns-in-Err-line-clause-grown : goal.returns-in-Err-line-clause-grown
 returns-in-Err-line-clause-grown g c = grows-on c.lines.invariant.grown c.in-Err-line.ensures.grown
 
+pub returns-in-Ok-None-clause-led : goal.returns-in-Ok-None-clause-led
+returns-in-Ok-None-clause-led g c =
+    read-leads (context_of c.args.session.now c.args.context.now) (state_of c.args.session.now c.args.self.now)
+    c.lines.session.kernel (Ok (tt {0})) c.args.max_bytes (state_of c.lines.session c.lines.self) _ _
+    (returns-in-Ok-None-clause-runs g c)
+
 pub returns-in-Err-line-clause-led : goal.returns-in-Err-line-clause-led
 returns-in-Err-line-clause-led g c =
-    subst (LeadsTo (context_of c.args.session.now c.args.context.now) (state_of c.args.session.now c.args.self.now))
-    (sym c.in-Err-line.ensures.moves.0) c.lines.invariant.led
+    read-leads (context_of c.args.session.now c.args.context.now) (state_of c.args.session.now c.args.self.now)
+    c.line.new.session.kernel (Err c.refusal.result) c.args.max_bytes (state_of c.line.new.session c.line.new.self) _ _
+    (returns-in-Err-line-clause-runs g c)
+
+pub returns-in-Err-clause-led : goal.returns-in-Err-clause-led
+returns-in-Err-clause-led g c =
+    read-leads (context_of c.args.session.now c.args.context.now) (state_of c.args.session.now c.args.self.now)
+    c.lines.session.kernel (Err c.from.result) c.args.max_bytes (state_of c.lines.session c.lines.self) _ _
+    (returns-in-Err-clause-runs g c)
 
 pub returns-in-Err-line-clause-apart : goal.returns-in-Err-line-clause-apart
 returns-in-Err-line-clause-apart g c =

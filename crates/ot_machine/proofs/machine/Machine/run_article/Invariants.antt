@@ -2,7 +2,6 @@ use Rattle.std.proofs.Common.{◌-◌}
 use Rattle.ot_io.specs.Keeping.{KeepsSource}
 use Rattle.ot_machine.specs.Meaning.{state_of, IsOf, Grows}
 use Rattle.ot_machine.specs.Contexts.{context_of}
-use Rattle.ot_machine.specs.Commanded.{LeadsTo}
 use Rattle.ot_machine.proofs.Followed.{Follows}
 use Rattle.ot_machine.proofs.machine.Machine.run_article.Given as goal
 
@@ -10,7 +9,6 @@ abbrev pub invariant-lines : goal.invariant-lines
 invariant-lines g l = record {
   so_far : Follows (context_of l.fn.session l.context) l.max_bytes (state_of l.fn.session l.fn.self)
       (state_of l.session l.self) l.lines (g.S.Source.left l.fn.source) (g.S.Source.left l.source);
-  led : LeadsTo (context_of l.fn.session l.context) (state_of l.fn.session l.fn.self) (state_of l.session l.self);
   of : IsOf l.session l.self;
   grown : Grows l.fn.session l.session;
   kept : KeepsSource g.S.Source.folder g.S.Source.faults g.S.Source.misses g.S.Source.at l.fn.source l.source;

@@ -6,7 +6,7 @@ use Rattle.ot_io.proofs.Keeping.{KeepsSource-then}
 use Rattle.ot_lines.specs.Pieces.{text_of, is_skipped}
 use Rattle.ot_scan.specs.Lines.{Scan, limit_fault}
 use Rattle.ot_scan.specs.Reading.{KeepsLines, ChecksLimits}
-use Rattle.ot_scan.proofs.Coming.{keeps-more, keeps-reads, keeps-skipped, next-found, stop-found}
+use Rattle.ot_scan.proofs.Coming.{keeps-more, keeps-fills, keeps-skipped, next-found, stop-found}
 use Rattle.ot_scan.proofs.Fitting.{line-fits}
 use Rattle.ot_scan.proofs.lines.Lines.pass_skipped.Goals as goal
 
@@ -22,7 +22,7 @@ returns-in_err-check_limits-clause-found g c =
     let scan = c.first_piece.new.self in
     let len = c.in_ok-len.len in
     let fault = c.in_err-check_limits.field-0.0 in
-    rw (p.1, p.2) (stop-found scan len _ fault c.in_ok-len.ensures.first (omega arith)
+    rw (p.1, p.2) (stop-found scan len fault c.in_ok-len.ensures.first (omega arith)
     (subst (λ bs. ChecksLimits (Err fault) (scan.number + 1) (limit_fault scan.max scan.before (take len bs)))
     c.held.ensures c.in_err-check_limits.ensures.limits))
 
@@ -49,10 +49,31 @@ returns-then-not-is_passed_over-clause-found g c =
             );
         holds = holds;
         fits = line-fits scan.max scan.before len scan.held _ c.in_ok-len.ensures.first limits;
-        next = next-found scan len _ c.in_ok-len.ensures.first some limits holds;
+        next = next-found scan len c.in_ok-len.ensures.first some limits holds;
       };
       end = λ none. absurd (omega (arith, none, some));
     }
+
+pub returns-in_err-len-clause-same_lines : goal.returns-in_err-len-clause-same_lines
+returns-in_err-len-clause-same_lines g c =
+    keeps-more c.args.self.now c.lines.self c.first_piece.new.self (g.S.Source.left c.args.source.now)
+    (g.S.Source.left c.lines.source) (g.S.Source.left c.first_piece.new.source) c.lines.invariant.same_lines
+    (keeps-fills c.lines.self c.first_piece.new.self (g.S.Source.left c.lines.source)
+    (g.S.Source.left c.first_piece.new.source) c.in_err-len.ensures.read)
+
+pub returns-in_err-check_limits-clause-same_lines : goal.returns-in_err-check_limits-clause-same_lines
+returns-in_err-check_limits-clause-same_lines g c =
+    keeps-more c.args.self.now c.lines.self c.first_piece.new.self (g.S.Source.left c.args.source.now)
+    (g.S.Source.left c.lines.source) (g.S.Source.left c.first_piece.new.source) c.lines.invariant.same_lines
+    (keeps-fills c.lines.self c.first_piece.new.self (g.S.Source.left c.lines.source)
+    (g.S.Source.left c.first_piece.new.source) c.in_ok-len.ensures.read)
+
+pub returns-then-not-is_passed_over-clause-same_lines : goal.returns-then-not-is_passed_over-clause-same_lines
+returns-then-not-is_passed_over-clause-same_lines g c =
+    keeps-more c.args.self.now c.lines.self c.first_piece.new.self (g.S.Source.left c.args.source.now)
+    (g.S.Source.left c.lines.source) (g.S.Source.left c.first_piece.new.source) c.lines.invariant.same_lines
+    (keeps-fills c.lines.self c.first_piece.new.self (g.S.Source.left c.lines.source)
+    (g.S.Source.left c.first_piece.new.source) c.in_ok-len.ensures.read)
 
 pub lines-preserved : goal.lines-preserved
 lines-preserved g c =
@@ -68,7 +89,7 @@ lines-preserved g c =
       same_lines = keeps-more c.args.self.now c.lines.self c.take_piece.follows.lender-at-none
           (g.S.Source.left c.args.source.now) (g.S.Source.left c.lines.source) left c.lines.invariant.same_lines
           (keeps-more c.lines.self scan c.take_piece.follows.lender-at-none (g.S.Source.left c.lines.source) left left
-          (keeps-reads c.lines.self scan (g.S.Source.left c.lines.source) left c.in_ok-len.ensures.read)
+          (keeps-fills c.lines.self scan (g.S.Source.left c.lines.source) left c.in_ok-len.ensures.read)
           (subst (λ (s : Scan). KeepsLines scan s left left) (sym c.take_piece.follows.holds-at-none)
           (keeps-skipped scan len left c.in_ok-len.ensures.first (omega arith) limits skipped)));
       goes_on = record {
