@@ -5,6 +5,7 @@ pub mod Kept
 pub mod OperandHash
 pub mod Trace
 pub mod StepHash
+pub mod Greatest
 pub mod Reach
 pub mod Walk
 pub mod Uses

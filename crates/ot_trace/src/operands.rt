@@ -1,7 +1,7 @@
-ghost use Rattle.std.specs.Prelude.{◌≡◌, ◌+◌, ◌*◌, IfOk, fold};
+ghost use Rattle.std.specs.Prelude.{◌≡◌, ◌+◌, ◌*◌, IfOk, IfSome, fold};
 ghost use Rattle.std.proofs.Common.{rules};
 ghost use Rattle.std.specs.Cmp.Rules.{comparing};
-ghost use Rattle.ot_trace.specs.OperandHash.{same_operands, operand_writes, operand_writes-alike};
+ghost use Rattle.ot_trace.specs.OperandHash.{same_operands, greatest_operand, operand_writes, operand_writes-alike};
 
 use crate::trace::StepId;
 use ot_logic::Memory;
@@ -59,6 +59,30 @@ impl Operands {
             Kept::Two(pair) => pair,
             Kept::Many(list) => list.as_slice(),
         }
+    }
+
+    /// The greatest of one or two.
+    pub(crate) fn greatest(&self) -> Option<u32>
+        ensures { result ≡ greatest_operand self.now }
+    {
+        match self.as_slice() {
+            [one] => Some(one.0),
+            [lower, upper] => Some(lower.0.max(upper.0)),
+            _ => None,
+        }
+    }
+
+    /// A copy of operands that own no list.
+    pub(crate) fn copied(&self) -> Option<Operands>
+        ensures { IfSome result (λ operands. operands ≡ self.now) }
+    {
+        let kept = match &self.kept {
+            Kept::None => Kept::None,
+            Kept::One(one) => Kept::One(*one),
+            Kept::Two(pair) => Kept::Two(*pair),
+            Kept::Many(_) => return None,
+        };
+        Some(Operands { kept })
     }
 }
 

@@ -1,9 +1,11 @@
-ghost use Rattle.std.specs.Prelude.{◌≡◌};
+ghost use Rattle.std.specs.Prelude.{◌≡◌, IfSome};
 ghost use Rattle.ot_trace.specs.StepHash.{step_writes, step_writes-alike};
+ghost use Rattle.ot_trace.specs.Greatest.{greatest_part, greatest_part-alike};
 
 use crate::operands::{Operands, hash_operands};
 use crate::trace::StepId;
 use ot_logic::{Cmd, NameId};
+use ot_near::Refers;
 use std::hash::{Hash, Hasher};
 
 /// How an object was made, with the parts by number.
@@ -36,6 +38,39 @@ impl Step {
             Step::Number(_) => &[],
             Step::Name(_) => &[],
             Step::Outcome(_, _) => &[],
+        }
+    }
+
+    /// A copy of a step that owns no list.
+    pub(crate) fn copied(&self) -> Option<Step>
+        ensures { IfSome result (λ step. step ≡ self.now) }
+    {
+        match self {
+            Step::Number(number) => Some(Step::Number(*number)),
+            Step::Name(name) => Some(Step::Name(*name)),
+            Step::Make(word, operands) => match operands.copied() {
+                Some(operands) => Some(Step::Make(*word, operands)),
+                None => None,
+            },
+            Step::Define(_, _, _) => None,
+            Step::Outcome(place, definition) => Some(Step::Outcome(*place, *definition)),
+        }
+    }
+}
+
+// The table looks for a step near its greatest operand, which is mostly a young one.
+impl Refers for Step {
+    ghost greatest = { greatest_part };
+
+    ghost greatest_alike = { greatest_part-alike };
+
+    fn greatest(&self) -> Option<u32> {
+        match self {
+            Step::Make(_, operands) => operands.greatest(),
+            Step::Outcome(_, definition) => Some(definition.0),
+            Step::Number(_) => None,
+            Step::Name(_) => None,
+            Step::Define(_, _, _) => None,
         }
     }
 }

@@ -1,12 +1,13 @@
 ghost use Rattle.std.specs.Prelude.{◌≡◌, ℕ, ◌<◌, ◌++◌, ◌∷◌, [], ◌⊎◌, ◌≢◌, Some};
 ghost use Rattle.std.specs.Prelude.{slice_get, length, IfOk, OnOk, OnErr, IfSome, IfNone};
+ghost use Rattle.indexmap.specs.IndexMap.{index_map_len, index_of};
 ghost use Rattle.ot_logic.specs.Table.{IsInjective};
 
 mod making;
 
 use crate::step::Step;
-use indexmap::IndexMap;
 use ot_logic::Memory;
+use ot_near::NearMap;
 use std::alloc::Global;
 use std::marker::Model;
 
@@ -40,7 +41,7 @@ impl StepId {
 /// call, refused or not. A call that takes a number has the condition that it is one of this trace.
 #[derive(Drop)]
 pub struct Trace {
-    steps: IndexMap<Step, ()>,
+    steps: NearMap<Step, ()>,
 }
 
 impl Model for Trace {
@@ -71,7 +72,7 @@ impl Trace {
         ensures { result ≡ [] }
     {
         Trace {
-            steps: IndexMap::new(alloc),
+            steps: NearMap::new(alloc),
         }
     }
 
@@ -121,14 +122,14 @@ impl Trace {
 
     /// The number of a step, or `None` exactly where the trace hasn't its origin.
     ///
-    /// The step is one that `add` takes.
+    /// The step is one that `add` takes. One that owns a list is looked for step by step.
     pub fn find(&self, step: &Step) -> Option<StepId>
         requires inside { IsBelow (length self.now) step.now }
         requires symbols { HasSymbols self.now step.now }
         ensures some { IfSome result (λ id. slice_get self.now id ≡ Some (origin_of self.now step.now)) }
         ensures none { IfNone result ((i : ℕ) → slice_get self.now i ≢ Some (origin_of self.now step.now)) }
     {
-        match self.steps.get_index_of(step) {
+        match place_of(&self.steps, step) {
             Some(index) => Some(StepId(index as u32)),
             None => None,
         }
@@ -140,5 +141,16 @@ impl Trace {
         ensures table { IsStepTable self.now }
     {
         self.steps.len()
+    }
+}
+
+/// The place of a step in the table.
+fn place_of(steps: &NearMap<Step, ()>, step: &Step) -> Option<usize>
+    ensures index { result ≡ index_of ⟦<Step as PartialEq>⟧.eq steps.now step.now }
+    ensures within { IfSome result (λ i. i < index_map_len steps.now) }
+{
+    match step.copied() {
+        Some(copy) => steps.find(copy),
+        None => steps.walk_to(step),
     }
 }

@@ -1,4 +1,4 @@
-use Rattle.std.proofs.Common.{◌≡◌, length, hash_map_len, refl, arith}
+use Rattle.std.proofs.Common.{arith}
 use Rattle.ot_trace.proofs.EnterLemmas.{entered, Entered}
 use Rattle.ot_trace.proofs.trace.Trace.add.Goals as goal
 
@@ -10,8 +10,7 @@ left c = entered c.self.inside.steps c.args.self.now c.self.view_is c.self.invar
 
 pub invariant_of-self-2 : goal.invariant_of-self-2
 invariant_of-self-2 c =
-    let count : length c.insert_full.new.self.entries ≡ hash_map_len c.insert_full.new.self = refl in
-    ((left c).sound, grind (arith, count, c.in_ok-index.ensures.len, c.in_ok-index.ensures.within))
+    ((left c).sound, omega (arith, c.in_ok-index.ensures.len, c.if-len.false, c.len.ensures))
 
 pub returns-clause-ok : goal.returns-clause-ok
 returns-clause-ok c = (left c).found

@@ -1,0 +1,2 @@
+-- Lemmas on tables of nodes.
+pub mod Placing

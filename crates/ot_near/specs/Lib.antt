@@ -1,0 +1,3 @@
+-- Where a node is looked for, and what a table of nodes keeps.
+pub mod Place
+pub mod Table
