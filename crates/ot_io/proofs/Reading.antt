@@ -2,6 +2,7 @@
 use Rattle.std.proofs.Common.{◌≡◌, ◌++◌, ◌∙◌, ℕ, List, [], Bool, true, false, Option, Some, None, sym, ap, subst, refl}
 use Rattle.std.proofs.Common.{append_assoc, append-nil, length-append, length, take, ◌+◌, ◌≤◌, arith}
 use Rattle.std.proofs.lemmas.List.{take_all, take-append-le}
+use Rattle.std.specs.Prelude.{IfSome}
 use Rattle.std.specs.Io.KnownBytes.{Consumes, IsAtEnd, Keeps}
 use Rattle.std.proofs.KnownBytes.{Consumes-nil, Consumes-trans}
 use Rattle.ot_io.specs.Reading.{MayFollow, Reads, HasRead, OfTold}
@@ -62,6 +63,26 @@ Reads-told a b (Some all) (Some rest) P before p =
 pub HasRead-told : (l l' : Option (List ℕ)) (E : Type 0) (P : List ℕ → List ℕ → Type 0) → HasRead l l' E P
     → OfTold l l' P
 HasRead-told l l' E P h = Reads-told false h.ended l l' P (λ e. cc) h.reads
+
+-- of all the bytes of a source that is told
+pub HasRead-if : (l l' : Option (List ℕ)) (E : Type 0) (P : List ℕ → Type 0) → HasRead l l' E (λ all rest. P all)
+    → IfSome l P
+HasRead-if None l' E P h = tt
+HasRead-if (Some all) None E P h = absurd (HasRead-told (Some all) None E (λ all rest. P all) h)
+HasRead-if (Some all) (Some rest) E P h = HasRead-told (Some all) (Some rest) E (λ all rest. P all) h
+
+-- which has none left where the call read to the end
+pub HasRead-end : {l l' : Option (List ℕ)} {E : Type 0} {P : List ℕ → List ℕ → Type 0} → HasRead l l' E P → E
+    → IsAtEnd l'
+HasRead-end h e = h.reads.end (λ e. cc) (h.to_end e)
+
+pub HasRead-map : {l l' : Option (List ℕ)} {E E' : Type 0} {P Q : List ℕ → List ℕ → Type 0} → HasRead l l' E P
+    → (E' → E) → ((all rest : List ℕ) → P all rest → Q all rest) → HasRead l l' E' Q
+HasRead-map {l = l} {l' = l'} {P = P} {Q = Q} h less to = record {
+  ended = h.ended;
+  to_end = λ e. h.to_end (less e);
+  reads = Reads-map false h.ended l l' P Q (λ all rest may. to all rest) h.reads;
+}
 
 -- what one call read from the start
 pub HasRead-of : (ended : Bool) (l l' : Option (List ℕ)) (E : Type 0) (P : List ℕ → List ℕ → Type 0) (read : List ℕ)

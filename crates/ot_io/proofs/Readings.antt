@@ -1,9 +1,10 @@
 -- Laws of what was read of files.
-use Rattle.std.proofs.Common.{◌≡◌, ◌++◌, ◌∙◌, ℕ, List, [], ◌∷◌, Bool, true, false, Option, Some, None, sym, ap, refl}
+use Rattle.std.proofs.Common.{◌≡◌, ◌++◌, ◌∙◌, ℕ, List, [], ◌∷◌, Bool, true, false, Option, Some, None, sym, ap, subst, refl}
 use Rattle.std.proofs.Common.{append-nil}
 use Rattle.std.specs.Prelude.{IfSome}
 use Rattle.std.specs.Io.KnownBytes.{Consumes, IsAtEnd}
 use Rattle.ot_io.specs.Folder.{Folder, bytes_at, GivesFile}
+use Rattle.ot_io.specs.Keeping.{KeepsFiles}
 use Rattle.ot_io.specs.Reading.{Reads, HasRead}
 use Rattle.ot_io.specs.Readings.{Missing, Whole, Front, reading_of, IsOf, Readings, Agrees, HasReadFiles}
 
@@ -52,9 +53,21 @@ Files-then told P Q R both p q = record {
       (q.holds folder (agrees-behind folder p.readings q.readings a));
 }
 
+-- the second call reads of the files that the first one left
+pub Files-next : {F : Type 0} {folder : F → Option Folder} {faults misses : F → ℕ} {old mid : F}
+    {P Q R : Folder → Type 0} → KeepsFiles folder faults misses old mid → HasReadFiles (folder old) P
+    → HasReadFiles (folder mid) Q → ((f : Folder) → P f → Q f → R f) → HasReadFiles (folder old) R
+Files-next {folder = folder} {old = old} {P = P} {Q = Q} {R = R} kept p q both =
+    Files-then (folder old) P Q R both p (subst (λ told. HasReadFiles told Q) kept.same_folder q)
+
 -- of a folder that is told
 pub Files-told : (folder : Folder) (P : Folder → Type 0) → HasReadFiles (Some folder) P → P folder
 Files-told folder P p = p.holds folder p.agrees
+
+pub Files-if : (told : Option Folder) (P Q : Folder → Type 0) → HasReadFiles told P
+    → ((folder : Folder) → P folder → Q folder) → IfSome told Q
+Files-if None P Q h to = tt
+Files-if (Some folder) P Q h to = to folder (Files-told folder P h)
 
 -- ---- one file
 

@@ -8,6 +8,7 @@ use Rattle.std.proofs.lemmas.List.{take_all, length-take}
 use Rattle.ot_io.specs.Folder.{Folder, bytes_at, GivesFile}
 use Rattle.ot_io.specs.Reading.{HasRead}
 use Rattle.ot_io.specs.Readings.{HasReadFiles}
+use Rattle.ot_io.proofs.Reading.{HasRead-map}
 use Rattle.ot_io.proofs.Readings.{Files-none, Files-one}
 use Rattle.ot_logic.specs.Answers.{some_or}
 use Rattle.ot_kernel.specs.State as kernel
@@ -17,7 +18,6 @@ use Rattle.ot_link.specs.Link.{text_at}
 use Rattle.ot_link.specs.Answers.{Stops, Comes}
 use Rattle.ot_link.specs.declared.fault.LinkFault.{LinkFault}
 use Rattle.ot_link.specs.declared.fault.LinkFault.TheVariants as link
-use Rattle.ot_link.proofs.Agreeing.{HasRead-map}
 use Rattle.ot_link.proofs.Parts.{stops-first}
 
 module _ {A : Type 0} (e : Setting) (path : List ℕ) (f : List ℕ → Result A Stop) where

@@ -1,5 +1,3 @@
--- What calls read of sources and files, one after the other.
-pub mod Agreeing
 -- Parts of a link that read a file.
 pub mod FileParts
 -- How the run of an article ends.

@@ -1,5 +1,5 @@
 //! Articles as they are run in a context.
-ghost use Rattle.std.specs.Prelude.{◌≡◌, ◌≢◌, ◌≤◌, ◌^◌, ℕ, Err, IfOk, IfErr, IfSome, IsOk, string_bytes};
+ghost use Rattle.std.specs.Prelude.{◌≡◌, ◌≢◌, ◌≤◌, ◌^◌, ℕ, Err, IfOk, IfErr, IsOk, string_bytes};
 ghost use Rattle.ot_io.specs.Causes.{CountRose};
 ghost use Rattle.ot_io.specs.Keeping.{KeepsSource, KeepsFiles};
 ghost use Rattle.ot_io.specs.Reading.{HasRead};
@@ -75,11 +75,6 @@ pub fn run_alone<S: Source>(
     requires limits { AreWithin limits.now }
     ensures reads { HasRead (S.left source.old) (S.left source.new) (IsOk result)
         (λ bytes rest. Comes session.new.kernel (ran_of session.new) result
-        (answered_by (string_bytes path)
-        (article_end (string_bytes path)
-        (run no_context (lines_of limits.now.article_bytes bytes)
-        (record { article = fresh_article; run = fresh_run }))))) }
-    ensures ends { IfSome (S.left source.old) (λ bytes. Comes session.new.kernel (ran_of session.new) result
         (answered_by (string_bytes path)
         (article_end (string_bytes path)
         (run no_context (lines_of limits.now.article_bytes bytes)

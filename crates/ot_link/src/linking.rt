@@ -1,4 +1,4 @@
-ghost use Rattle.std.specs.Prelude.{◌≡◌, [], Some, IfOk, IfErr, IfSome};
+ghost use Rattle.std.specs.Prelude.{◌≡◌, [], Some, IfOk, IfErr};
 ghost use Rattle.ot_io.specs.Keeping.{KeepsFiles};
 ghost use Rattle.ot_io.specs.Readings.{HasReadFiles};
 ghost use Rattle.ot_machine.specs.States.{fresh_run};
@@ -46,8 +46,6 @@ pub fn link<F: Files>(
     requires fresh { run_of session.old ≡ fresh_run }
     requires limits { AreWithin limits.now }
     ensures reads { HasReadFiles (F.folder files.old) (λ folder. Comes session.new.kernel (ran_of session.new) result
-        (link (record { folder = folder; packages = packages.now; limits = limits.now }) theory_path.now)) }
-    ensures links { IfSome (F.folder files.old) (λ folder. Comes session.new.kernel (ran_of session.new) result
         (link (record { folder = folder; packages = packages.now; limits = limits.now }) theory_path.now)) }
     ensures session { IsRun session.new }
     ensures lawful { IsLawfulSession session.new }

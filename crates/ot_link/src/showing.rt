@@ -1,5 +1,5 @@
 //! The namespaces that a theory file shows.
-ghost use Rattle.std.specs.Prelude.{◌≡◌, ◌++◌, [], Some, IfOk, IfErr, IfSome, OnOk};
+ghost use Rattle.std.specs.Prelude.{◌≡◌, ◌++◌, [], Some, IfOk, IfErr, OnOk};
 ghost use Rattle.ot_io.specs.Keeping.{KeepsFiles};
 ghost use Rattle.ot_io.specs.Readings.{HasReadFiles};
 ghost use Rattle.ot_kernel.specs.State.{State};
@@ -37,8 +37,6 @@ pub fn shown<F: Files>(
     requires { AreWithin limits.now }
     ensures reads { HasReadFiles (F.folder files.old) (λ folder. (k : State)
         → Comes k (λ names. names.items) result
-        (stated (record { folder = folder; packages = []; limits = limits.now }) theory_path.now)) }
-    ensures shows { IfSome (F.folder files.old) (λ folder. (k : State) → Comes k (λ names. names.items) result
         (stated (record { folder = folder; packages = []; limits = limits.now }) theory_path.now)) }
     ensures symbols { IfErr result (λ e. (k : State) → NamesSymbolIn k e) }
     ensures cause { IfErr result (λ e. HasCause e (F.misses files.old) (F.misses files.new) (F.faults files.old)

@@ -12,7 +12,6 @@ ghost use Rattle.ot_machine.specs.Meaning.{version_of, IsRun, IsOf, Grows, IsCom
 ghost use Rattle.ot_machine.specs.Contexts.{context_of, IsContextOf};
 ghost use Rattle.ot_machine.specs.Step.{step, row, word_row, version_rule};
 ghost use Rattle.ot_machine.specs.Run.{line_step};
-ghost use Rattle.ot_machine.specs.Commanded.{LeadsTo};
 ghost use Rattle.ot_machine.specs.Answers.{Makes, StepsTo, TakesRow, Runs, NamesSymbolIn};
 
 use crate::context::Context;
@@ -86,7 +85,7 @@ impl Machine {
 
     /// One command. The first fault of the stated machine counts; after it, and after running out of memory, the state is as
     /// before. The machine's numbers, and the context's names and theorems, have to be of this session.
-    /// Once a line: the reader of an article is to have it inline, and what stands in its way.
+    // Inlined into the loop over lines, with what it calls for most words: a call a line costs as much as a short row.
     #[inline(always)]
     pub fn step(
         &mut self,
@@ -110,11 +109,10 @@ impl Machine {
         Ok(())
     }
 
-    /// Runs the lines of an article, up to the first fault, in one pass over a source. The fault has the line at
-    /// which it stands, and the state is as before that line; it is never running out of memory, which is an answer of its
-    /// own. `ReadFault` comes only where the source failed in this call. After it, and after running out of memory, the
-    /// state is that of some number of the first lines. The machine's numbers, and the context's names and theorems,
-    /// have to be of this session.
+    /// Runs the lines of an article up to the first fault, in one pass over a source. A fault names its line, and leaves
+    /// the state that the lines before it made. Want of memory is no fault of a line, but an answer of its own, and
+    /// `ReadFault` comes only where the source failed in this call: after each of these the state is that of some number
+    /// of the first lines. The machine's numbers, and the context's names and theorems, have to be of this session.
     pub fn run_article<S: Source>(
         &mut self,
         session: &mut Session,
@@ -128,8 +126,6 @@ impl Machine {
         ensures runs { HasRead (S.left source.old) (S.left source.new) (IsOk result)
             (λ bytes rest. Runs session.new.kernel result (context_of session.old context.now)
             (lines_of max_bytes bytes) (state_of session.old self.old) (state_of session.new self.new)) }
-        ensures led { LeadsTo (context_of session.old context.now) (state_of session.old self.old)
-            (state_of session.new self.new) }
         ensures of { IsOf session.new self.new }
         ensures grown { Grows session.old session.new }
         ensures symbols { IfErr result (NamesSymbolIn session.new.kernel) }
@@ -194,7 +190,7 @@ impl Machine {
                 Ok(())
             }
             Command::Named(name) => rows::name(session, self, name),
-            // Two of three words are these, and the way through the table of all costs as much as their rows.
+            // Two of three words are these, and finding them in the table of all words costs as much as their rows.
             Command::Order(order) => match order {
                 Cmd::Ref => rows::refer(session, self),
                 Cmd::Cons => rows::cons(session, self),
@@ -204,7 +200,7 @@ impl Machine {
     }
 
     /// The row of a word, in an article of a version.
-    /// Without a mark: taken in here, it would make the way of a line too large to be taken in itself.
+    // Not inlined: with all its rows the loop over lines would be too large for the compiler to inline the others.
     fn order(
         &mut self,
         session: &mut Session,

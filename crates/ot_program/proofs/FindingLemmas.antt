@@ -1,7 +1,7 @@
 -- The search for a pattern.
-use Rattle.std.proofs.Common.{◌≡◌, ◌≢◌, ℕ, suc, get_or, take, drop, ◌<◌, ◌≤◌, ◌+◌, ◌-◌, List, [], ◌∷◌, ◌++◌, length}
+use Rattle.std.proofs.Common.{◌≡◌, ◌≢◌, ℕ, suc, get_or, take, drop, ◌<◌, ◌+◌, ◌-◌, List, [], ◌∷◌, ◌++◌, length}
 use Rattle.std.proofs.Common.{map, refl, sym, ap, subst, ◌∙◌, inl, inr, ◌⊎◌, arith, append-nil, append_assoc}
-use Rattle.std.specs.Prelude.{Bool, true, false, if◌then◌else◌, Option, Some, None, IfSome}
+use Rattle.std.specs.Prelude.{true, false, Option, Some, None, IfSome, Vec}
 use Rattle.std.specs.Prelude.{IsSomeAnd, Result, Ok, Err, IfOk, IfErr, OnOk, String, string_bytes}
 use Rattle.std.specs.Global.{Global}
 use Rattle.std.specs.Option.{option_map}
@@ -17,12 +17,13 @@ use Rattle.ot_logic.specs.Lists.{IsMember}
 use Rattle.ot_logic.specs.declared.memory.Memory.{Memory as NoMemory}
 use Rattle.ot_io.specs.Causes.{CountRose}
 use Rattle.ot_io.specs.Folder.{Folder}
+use Rattle.ot_io.specs.Readings.{HasReadFiles}
 use Rattle.ot_args.specs.Grammar.{is_theory}
 use Rattle.ot_blocks.specs.Paths.{package_path}
 use Rattle.ot_repo.specs.Required.{Refusal, required}
 use Rattle.ot_repo.specs.Required as repo
 use Rattle.ot_repo.specs.Laws.{IsWalked}
-use Rattle.ot_repo.specs.Answers.{Refuses, HasCause as HasWalkCause, FailsAt}
+use Rattle.ot_repo.specs.Answers.{Refuses, HasCause as HasWalkCause, FailsAt, IsAnswer as IsWalkAnswer, names_of}
 use Rattle.ot_repo.specs.declared.fault.RepoFault.{RepoFault}
 use Rattle.ot_repo.specs.declared.fault.RepoFault.TheVariants as repos
 use Rattle.ot_kernel.specs.State.{State, theorem_at}
@@ -37,35 +38,34 @@ use Rattle.ot_find.specs.declared.search.Search.{Search}
 use Rattle.ot_read.specs.Lines.{RefusedLine, at_line, term_read}
 use Rattle.ot_print.specs.Laws.{TextsNameOne}
 use Rattle.ot_program.specs.Texts.{column_line, required_line}
-use Rattle.ot_program.specs.Reply.{FindPattern, ShowReadable, FindStop, InRequired, InRun, InPattern, PackageRun}
-use Rattle.ot_program.specs.Reply.{Searched, Noted, noted, search, search_theory, package_runs, find_at, sources}
-use Rattle.ot_program.specs.Reply.{is_standard, opened, found, limits, theory_run}
-use Rattle.ot_program.specs.Reply.{theory_shown, noted_at, notation, exports_of}
-use Rattle.ot_program.specs.Reply.{run_lists, required_status, find_status, find_line, pattern_path}
-use Rattle.ot_program.specs.Answer.{IsProved, IsSearchFile, OfWalk, OfPackage, IsInputStop}
-use Rattle.ot_program.specs.Answer.{IsFindStop, FileFailed, IsRequiredFound, IsFailedPath, LastInput, LeavesOther}
-use Rattle.ot_program.specs.Verdicts.{ran_from, ending_of, HasEnded, AtStop, AtFailure, IfEnded, IsWalkVerdict}
-use Rattle.ot_program.specs.Verdicts.{required_in, AreRequired, HasEndedWalk, HasEndedInput, HasEndedPattern}
-use Rattle.ot_program.specs.Verdicts.{HasEndedRun, HasEndedRuns, HasEndedSearch, IsPattern, runs_in}
-use Rattle.ot_program.specs.Verdicts.{HasMatches, IsSearched, AreSearched, HasSearched, FoundEndsAs, source_of}
-use Rattle.ot_program.specs.Verdicts.{IsSaid, End, Finished, Stopped, Failed, IsAnswer, IsEnd, HasTaskCause}
-use Rattle.ot_program.specs.Verdicts.{HasTheoryCause, IsStopVerdict, IsTaskVerdict, IsVerdictOn, noted_end}
+use Rattle.ot_program.specs.World.{World, Every, HasReadWorld, HasReadFolder}
+use Rattle.ot_program.specs.Reply.{FindPattern, ShowReadable, FindStop, InRequired, InRun, InPattern}
+use Rattle.ot_program.specs.Reply.{PackageRun, Searched, Noted, noted, search, package_runs, required_at, find_at}
+use Rattle.ot_program.specs.Reply.{sources, is_standard, found, limits, theory_run, theory_shown, noted_at, notation}
+use Rattle.ot_program.specs.Reply.{exports_of, run_lists, required_status, pattern_path}
+use Rattle.ot_program.specs.Answer.{IsProved, IsSearchFile, OfWalk, OfPackage, IsResult, FileFailed, LastInput, LeavesOther}
+use Rattle.ot_program.specs.Verdicts.{AnswersIn, ran_from, noted_of, ending_of, HasEnded, AtStop, AtFailure, IfEnded}
+use Rattle.ot_program.specs.Verdicts.{IsWalkVerdict, HasEndedWalk, HasEndedInput, HasEndedPattern, HasEndedRun}
+use Rattle.ot_program.specs.Verdicts.{HasEndedRuns, HasEndedBehind, AtPattern, AtRuns, HasEndedSearch, IsPattern}
+use Rattle.ot_program.specs.Verdicts.{IsRunFile, HasMatches, IsSearched, AreSearched, HasSearchedBehind, HasSearched}
+use Rattle.ot_program.specs.Verdicts.{searched_of, FoundEndsAs, source_of, EndsWalk, EndsInput, EndsRun, EndsRuns, EndsBehind}
+use Rattle.ot_program.specs.Verdicts.{EndsSearch, IsSaid, End, Finished, Stopped, Failed, HasTaskEnd, HasTheoryEnd}
+use Rattle.ot_program.specs.Verdicts.{IsStopVerdict, IsTaskVerdict, IsVerdictOn, noted_end}
 use Rattle.ot_program.specs.declared.finding.Ending.{Ending}
 use Rattle.ot_program.specs.declared.finding.Ending.TheVariants as endings
+use Rattle.ot_program.specs.declared.noted.NotedRun.{NotedRun}
 use Rattle.ot_program.specs.declared.report.Verdict.{Verdict}
 use Rattle.ot_program.specs.declared.status.Status.{Status}
 use Rattle.ot_program.specs.declared.status.Status.TheVariants.{Refused, NoFile}
-use Rattle.ot_program.proofs.NotedLemmas.{no_standard, rose_later, file_later, more_path}
+use Rattle.ot_program.proofs.InputLemmas.{no_standard, no_theory, theory_stop}
+use Rattle.ot_program.proofs.NotedLemmas.{more_path}
+use Rattle.ot_program.proofs.Options.{no_stop}
 use Rattle.ot_program.proofs.RunLemmas.{exports_are}
 use Rattle.ot_program.proofs.VerdictLemmas.{task_verdict}
-use Rattle.ot_program.proofs.Options.{unknown, mapped, if_some, ends_with}
+use Rattle.ot_program.proofs.Worlds.{IsPart, HasFolders, folder_of, folder_none, world_of_folder, folder_then_world}
+use Rattle.ot_program.proofs.Worlds.{world_then_folder}
 
 -- ---- answers
-
-pub unmapped : {X Y : Type 0} (f : X → Y) (P : Y → Type 0) (o : Option X) → IfSome (option_map f o) P
-    → IfSome o (λ x. P (f x))
-unmapped f P None h = tt
-unmapped f P (Some x) h = h
 
 pub ok_more : {X E : Type 0} (P Q : X → Type 0) (r : Result X E) → ((x : X) → P x → Q x) → IfOk r P → IfOk r Q
 ok_more P Q (Ok x) more h = more x h
@@ -85,23 +85,14 @@ pub err_ended : {X : Type 0} (P Q : Verdict → Type 0) (r : Result X Ending) �
 err_ended P Q (Ok x) more has = tt
 err_ended P Q (Err e) more has = if_ended P Q e more has
 
-pub err_all : {X : Type 0} (P : Type 0) (r : Result X Ending) → P → IfErr r (IfEnded (λ v. P))
-err_all P (Ok x) h = tt
-err_all P (Err (endings.Said v)) h = h
-err_all P (Err endings.Memory) h = tt
-
-pub ok_all : {X E : Type 0} (P : Type 0) (r : Result X E) → P → OnOk r P
-ok_all P (Ok x) h = h
-ok_all P (Err e) h = tt
-
--- what was counted since is counted from before
-pub ended_later : {A S : Type 0} (known : Option (Result A S)) (status : S → Status)
+-- what was counted since is counted from before, and what is answered in more worlds is in fewer
+pub ended_more : {A S : Type 0} (P Q : Result A S → Type 0) (status : S → Status)
     (line : S → List ℕ) (Own : S → Type 0) (F G : List ℕ → Type 0) (M N : Type 0)
-    → ((file : List ℕ) → F file → G file) → (M → N) → (v : Verdict)
-    → HasEnded known status line Own F M v → HasEnded known status line Own G N v
-ended_later known status line Own F G M N failed missed v (AtStop s said is own cause) =
-    AtStop s said is own (λ none. missed (cause none))
-ended_later known status line Own F G M N failed missed v (AtFailure path said has) =
+    → ((r : Result A S) → P r → Q r) → ((file : List ℕ) → F file → G file) → (M → N) → (v : Verdict)
+    → HasEnded P status line Own F M v → HasEnded Q status line Own G N v
+ended_more P Q status line Own F G M N answers failed missed v (AtStop s said is own cause) =
+    AtStop s said (answers (Err s) is) own (λ none. missed (cause none))
+ended_more P Q status line Own F G M N answers failed missed v (AtFailure path said has) =
     AtFailure path said (failed path has)
 
 -- a verdict that was made ends it
@@ -115,22 +106,21 @@ ends_by P Q (Err memory) more has = tt
 no_file : {X : Type 0} → Refused ≡ NoFile → X
 no_file e = absurd cc
 
-module _ (packages path : List ℕ) (folder : Option Folder) (at : Option (List ℕ))
-    (m m' f f' : ℕ) (theory : is_theory path ≡ true) where
+module _ (packages path : List ℕ) (at : Option (List ℕ)) (m m' f f' : ℕ) (theory : is_theory path ≡ true)
+    (May : Folder → Type 0) where
   walk_stop : (r : Refusal) (v : Verdict) → required_status r ≡ Refused → IsSaid v Refused (required_line r)
-      → IfSome folder (λ files. required files limits.theory_bytes packages path ≡ Err r)
-      → HasEndedWalk packages path folder (FileFailed at f f') (CountRose m m') v
+      → Every May (λ folder. required folder limits.theory_bytes packages path ≡ Err r)
+      → HasEndedWalk packages path (FileFailed at f f') (CountRose m m') v May
   walk_stop r v refused said is =
       AtStop r (record { status_is = said.status_is ∙ sym refused; text_is = said.text_is })
-      (mapped (λ files. required files limits.theory_bytes packages path) (λ answer. answer ≡ Err r) folder is) theory
-      (λ none. no_file (sym refused ∙ none))
+      (λ folder may. rw theory (is folder may)) theory (λ none. no_file (sym refused ∙ none))
 
-  pub walk_ended : (e : RepoFault)
-      → IfSome folder (λ files. Refuses e (required files limits.theory_bytes packages path))
+  walk_ended : (e : RepoFault)
+      → Every May (λ folder. Refuses e (required folder limits.theory_bytes packages path))
       → HasWalkCause e m m' f f' at
-      → IfSome folder (λ files. FailsAt (IsWalked files limits.theory_bytes packages path) e) → (v : Verdict)
+      → Every May (λ folder. FailsAt (IsWalked folder limits.theory_bytes packages path) e) → (v : Verdict)
       → IsWalkVerdict e v
-      → HasEndedWalk packages path folder (FileFailed at f f') (CountRose m m') v
+      → HasEndedWalk packages path (FileFailed at f f') (CountRose m m') v May
   walk_ended (repos.Theory p line fault) gives cause fails v said =
       walk_stop (repo.Theory (string_bytes p) line fault) v refl said gives
   walk_ended (repos.TheoryTooLarge p) gives cause fails v said =
@@ -144,36 +134,77 @@ module _ (packages path : List ℕ) (folder : Option Folder) (at : Option (List 
   walk_ended (repos.RequiresCycle p line) gives cause fails v said =
       walk_stop (repo.RequiresCycle (string_bytes p) line) v refl said gives
   walk_ended (repos.NoFile p) gives cause fails v said =
-      AtStop (repo.Missing (string_bytes p)) said
-      (mapped (λ files. required files limits.theory_bytes packages path)
-      (λ answer. answer ≡ Err (repo.Missing (string_bytes p))) folder gives)
-      theory (λ none. cause)
+      AtStop (repo.Missing (string_bytes p)) said (λ folder may. rw theory (gives folder may)) theory (λ none. cause)
   walk_ended (repos.ReadFault p) gives cause fails v said =
       AtFailure (string_bytes p) said (theory, fails, cause)
   walk_ended repos.Memory gives cause fails v said = absurd said
 
-pub are_required : (packages path : List ℕ) (folder : Option Folder) (fulls : List (List ℕ)) → is_theory path ≡ true
-    → IfSome folder (λ files. required files limits.theory_bytes packages path ≡ Ok fulls)
-    → AreRequired packages path folder fulls
-are_required packages path folder fulls theory is =
-    inl (
-      theory,
-      mapped (λ files. required files limits.theory_bytes packages path) (λ answer. answer ≡ Ok fulls)
-          folder is,
-    )
+  -- the walk was refused, and the verdict says so
+  pub walk_refused : (e : RepoFault) (r : Result Verdict NoMemory)
+      → Every May (λ folder. Refuses e (required folder limits.theory_bytes packages path))
+      → HasWalkCause e m m' f f' at
+      → Every May (λ folder. FailsAt (IsWalked folder limits.theory_bytes packages path) e)
+      → IfOk r (IsWalkVerdict e)
+      → EndsWalk packages path (Err (ending_of r)) (FileFailed at f f') (CountRose m m') May
+  walk_refused e r gives cause fails said = record {
+    ended =
+        ends_by (IsWalkVerdict e) (λ v. HasEndedWalk packages path (FileFailed at f f') (CountRose m m') v May) r
+        (walk_ended e gives cause fails) said;
+    found = tt;
+  }
+
+pub walk_refused_in : (packages path : List ℕ) (told : Option Folder) (at : Option (List ℕ)) (m m' f f' : ℕ)
+    → is_theory path ≡ true → (e : RepoFault) (r : Result Verdict NoMemory)
+    → HasReadFiles told (λ folder. IsWalkAnswer names_of (IsWalked folder limits.theory_bytes packages path) (Err e)
+    (required folder limits.theory_bytes packages path))
+    → HasWalkCause e m m' f f' at → IfOk r (IsWalkVerdict e)
+    → HasReadFolder told (EndsWalk packages path (Err (ending_of r)) (FileFailed at f f') (CountRose m m'))
+walk_refused_in packages path told at m m' f f' theory e r gives cause said =
+    folder_of told _ _ (λ May h. walk_refused packages path at m m' f f' theory May e r (λ folder may. (h folder may).gives)
+    cause (λ folder may. (h folder may).fails) said) gives
+
+pub walk_found : (packages path : List ℕ) (told : Option Folder) (fulls : Vec (String Global) Global)
+    (F : List ℕ → Type 0) (M : Type 0) → is_theory path ≡ true
+    → HasReadFiles told (λ folder. IsWalkAnswer names_of (IsWalked folder limits.theory_bytes packages path) (Ok fulls)
+    (required folder limits.theory_bytes packages path))
+    → HasReadFolder told (EndsWalk packages path (Ok fulls) F M)
+walk_found packages path told fulls F M theory gives =
+    folder_of told _ _ (λ May h. record { ended = tt; found = λ folder may. rw theory (h folder may).gives }) gives
+
+-- an article requires none
+pub article_walk : (packages path : List ℕ) (told : Option Folder) (fulls : Vec (String Global) Global)
+    (F : List ℕ → Type 0) (M : Type 0) → is_theory path ≡ false → names_of fulls ≡ []
+    → HasReadFolder told (EndsWalk packages path (Ok fulls) F M)
+article_walk packages path told fulls F M article none =
+    folder_none told _ (λ May. record { ended = tt; found = λ folder may. rw article (ap Ok (sym none)) })
+
+-- where memory ran out the verdict says nothing
+pub theory_ending : (P : Type 0) (r : Result Verdict NoMemory) → P → IfEnded (λ v. P) (ending_of r)
+theory_ending P (Ok v) h = h
+theory_ending P (Err memory) h = tt
 
 -- ---- the run of the input
 
-pub input_ended : (packages path : List ℕ) (folder : Option Folder)
-    (input : Option (List ℕ)) (I : Type 0) (F : List ℕ → Type 0) (M : Type 0) (o : Option (End Ran Stop))
-    → IfSome (option_map (noted_end []) o) (IsEnd (ShowReadable packages path) folder input)
-    → IfSome (option_map (noted_end []) o) (HasTaskCause (ShowReadable packages path) folder input I F M) → (v : Verdict)
-    → IsSomeAnd o (IsStopVerdict v) → HasEndedInput packages path folder input I F M v
-input_ended packages path folder input I F M None ended cause v said = absurd said
-input_ended packages path folder input I F M (Some (Finished r)) ended cause v said = absurd said
-input_ended packages path folder input I F M (Some (Stopped s)) ended cause v said =
-    AtStop s said ended cause.0 cause.1
-input_ended packages path folder input I F M (Some (Failed p)) ended cause v said = AtFailure p said cause
+input_ended : (packages path : List ℕ) (I : Type 0) (F : List ℕ → Type 0) (M : Type 0) (May : World → Type 0)
+    (o : Option (End Ran Stop))
+    → IfSome (option_map (noted_end []) o) (λ e. HasTaskEnd (ShowReadable packages path) I F M e May) → (v : Verdict)
+    → IsSomeAnd o (IsStopVerdict v) → HasEndedInput packages path I F M v May
+input_ended packages path I F M May None ended v said = absurd said
+input_ended packages path I F M May (Some (Finished r)) ended v said = absurd said
+input_ended packages path I F M May (Some (Stopped s)) ended v said =
+    AtStop s said ended.end ended.cause.0 ended.cause.1
+input_ended packages path I F M May (Some (Failed p)) ended v said = AtFailure p said ended.cause
+
+pub input_stopped : (packages path : List ℕ) (s : Session) (I : Type 0) (F : List ℕ → Type 0) (M : Type 0)
+    (May : World → Type 0) (o : Option (End Ran Stop)) (r : Result Verdict NoMemory)
+    → IfSome (option_map (noted_end []) o) (λ e. HasTaskEnd (ShowReadable packages path) I F M e May)
+    → IfOk r (λ v. IsSomeAnd o (IsStopVerdict v)) → EndsInput packages path s (Err (ending_of r)) I F M May
+input_stopped packages path s I F M May o r ended said = record {
+  ended =
+      ends_by (λ v. IsSomeAnd o (IsStopVerdict v)) (λ v. HasEndedInput packages path I F M v May) r
+      (input_ended packages path I F M May o ended) said;
+  ran = tt;
+}
 
 pub input_last : (P : Type 0) (o : Option (End Ran Stop)) → IfSome (option_map (noted_end []) o) (λ _. P)
     → (v : Verdict)
@@ -265,50 +296,21 @@ module _ (packages : List ℕ) where
         → package_runs packages folder (front ++ full ∷ back) ≡ Err s
     runs_stop front back full rs s before one = runs-append front (full ∷ back) ∙ rw (before, one) refl
 
-  module _ (folder : Option Folder) where
-    known_more : (front : List (List ℕ)) (full : List ℕ) (rs : List PackageRun) (r : Ran)
-        → IfSome (runs_in packages folder front) (λ answer. answer ≡ Ok rs)
-        → IfSome folder (λ files. (theory_run packages (package_path packages full) files).answer ≡ Ok r)
-        → IfSome (runs_in packages folder (front ++ full ∷ []))
-        (λ answer. answer ≡ Ok (rs ++ record { name = full; ran = r } ∷ []))
-    known_more front full rs r before one = go folder before one where
-      go : (o : Option Folder) → IfSome (runs_in packages o front) (λ answer. answer ≡ Ok rs)
-          → IfSome o (λ files. (theory_run packages (package_path packages full) files).answer ≡ Ok r)
-          → IfSome (runs_in packages o (front ++ full ∷ []))
-          (λ answer. answer ≡ Ok (rs ++ record { name = full; ran = r } ∷ []))
-      go None before one = tt
-      go (Some files) before one = runs_more files front full rs r before one
+  -- none is run yet
+  pub none_searched : (p : Tm Name) (s : Search) (May : Folder → Type 0) → AreSearched packages [] p s s May
+  none_searched p s May = record {
+    runs = [];
+    runs_are = λ folder may. refl;
+    each = refl;
+    proved = none_all (λ q. IsProved (run_lists q.ran));
+    found_more = λ fs has. subst (HasMatches s) (sym (append-nil fs)) has;
+  }
 
-    known_stop : (front back : List (List ℕ)) (full : List ℕ) (rs : List PackageRun) (s : Stop)
-        → IfSome (runs_in packages folder front) (λ answer. answer ≡ Ok rs)
-        → IfSome (option_map (λ files. (theory_run packages (package_path packages full) files).answer) folder)
-        (λ answer. answer ≡ Err s)
-        → IfSome (runs_in packages folder (front ++ full ∷ back)) (λ answer. answer ≡ Err s)
-    known_stop front back full rs s before one = go folder before one where
-      go : (o : Option Folder) → IfSome (runs_in packages o front) (λ answer. answer ≡ Ok rs)
-          → IfSome (option_map (λ files. (theory_run packages (package_path packages full) files).answer) o)
-          (λ answer. answer ≡ Err s)
-          → IfSome (runs_in packages o (front ++ full ∷ back)) (λ answer. answer ≡ Err s)
-      go None before one = tt
-      go (Some files) before one = runs_stop files front back full rs s before one
-
-    -- none is run yet
-    pub none_searched : (p : Tm Name) (s : Search) → AreSearched packages [] folder p s s
-    none_searched p s = record {
-      runs = [];
-      runs_are = go folder;
-      each = refl;
-      proved = none_all (λ q. IsProved (run_lists q.ran));
-      found_more = λ fs has. subst (HasMatches s) (sym (append-nil fs)) has;
-    } where
-      go : (o : Option Folder) → IfSome (runs_in packages o []) (λ answer. answer ≡ Ok [])
-      go None = tt
-      go (Some files) = refl
-
+  module _ (May Before Behind : Folder → Type 0) (first : IsPart May Before) (second : IsPart May Behind) where
     -- and one more
     pub one_searched : MatchesOfOneMore → (front : List (List ℕ)) (full : List ℕ) (p : Tm Name) (old mid new : Search)
-        → AreSearched packages front folder p old mid
-        → IsSearched packages full folder p mid new → AreSearched packages (front ++ full ∷ []) folder p old new
+        → AreSearched packages front p old mid Before
+        → IsSearched packages full p mid new Behind → AreSearched packages (front ++ full ∷ []) p old new May
     one_searched law front full p old mid new a b =
         let r : PackageRun = record { name = full; ran = b.ran } in
         let more : matches p (map source_of (a.runs ++ r ∷ []))
@@ -316,7 +318,9 @@ module _ (packages : List ℕ) where
         ap (matches p) (map-append source_of a.runs (r ∷ [])) ∙ law p (map source_of a.runs) (source_of r) in
         record {
           runs = a.runs ++ r ∷ [];
-          runs_are = known_more front full a.runs b.ran a.runs_are b.ran_is;
+          runs_are = λ folder may.
+              runs_more folder front full a.runs b.ran (a.runs_are folder (first folder may))
+              (b.ran_is folder (second folder may));
           each = map-append (λ q. q.name) a.runs (r ∷ []) ∙ ap (λ xs. xs ++ full ∷ []) a.each;
           proved =
               All-append (λ q. IsProved (run_lists q.ran)) a.runs (r ∷ []) a.proved
@@ -331,12 +335,14 @@ module _ (packages : List ℕ) where
     -- the run of one ends the task
     pub runs_ended : (front back : List (List ℕ)) (full : List ℕ) (p : Tm Name)
         (old mid : Search) (F G : List ℕ → Type 0) (M N : Type 0)
-        → ((file : List ℕ) → F file → G file) → (M → N) → AreSearched packages front folder p old mid
-        → (v : Verdict) → HasEndedRun packages full folder F M v
-        → HasEndedRuns packages (front ++ full ∷ back) folder G N v
+        → ((file : List ℕ) → F file → G file) → (M → N) → AreSearched packages front p old mid Before
+        → (v : Verdict) → HasEndedRun packages full F M v Behind
+        → HasEndedRuns packages (front ++ full ∷ back) G N v May
     runs_ended front back full p old mid F G M N failed missed a v (AtStop s said is has cause) =
-        AtStop s said (known_stop front back full a.runs s a.runs_are is) (no_texts front back full)
-        (λ none. missed (cause none))
+        AtStop s said
+        (λ folder may. runs_stop folder front back full a.runs s (a.runs_are folder (first folder may))
+        (is folder (second folder may)))
+        (no_texts front back full) (λ none. missed (cause none))
     runs_ended front back full p old mid F G M N failed missed a v (AtFailure file said has) =
         AtFailure file said (record {
           front = front;
@@ -344,43 +350,65 @@ module _ (packages : List ℕ) where
           back = back;
           among = refl;
           runs = a.runs;
-          runs_are = a.runs_are;
-          opened = has.0;
+          runs_are = λ folder may. a.runs_are folder (first folder may);
+          opened = λ folder may. has.0 folder (second folder may);
           fails = failed file has.1;
         })
 
-    pub run_ended : (path full : List ℕ) (F : List ℕ → Type 0) (M : Type 0) (o : Option (End Ran Stop))
-        → path ≡ package_path packages full
-        → IfSome folder (λ files. IfSome o (IsAnswer (theory_run packages path files).answer))
-        → IfSome o (HasTheoryCause packages path folder F M) → (v : Verdict) → IsSomeAnd o (IsStopVerdict v)
-        → HasEndedRun packages full folder F M v
-    run_ended path full F M None same ended cause v said = absurd said
-    run_ended path full F M (Some (Finished r)) same ended cause v said = absurd said
-    run_ended path full F M (Some (Stopped s)) same ended cause v said =
-        let is = subst (λ (z : List ℕ). IfSome folder (λ files. (theory_run packages z files).answer ≡ Err s)) same
-        ended in
-        AtStop s said
-        (mapped (λ files. (theory_run packages (package_path packages full) files).answer) (λ answer. answer ≡ Err s)
-        folder is)
-        tt cause.1
-    run_ended path full F M (Some (Failed file)) same ended cause v said =
-        let opened = subst (λ (z : List ℕ). IfSome
-        (option_map (λ files. (theory_run packages z files).paths) folder) (IsMember file))
-        same cause.0 in
-        AtFailure file said (
-          unmapped (λ files. (theory_run packages (package_path packages full) files).paths) (IsMember file) folder
-              opened,
-          cause.1,
-        )
+  pub package_ends : (fulls front back : List (List ℕ)) (full : List ℕ) (p : Tm Name) (old mid new : Search)
+      (F G : List ℕ → Type 0) (M N : Type 0) (May Before Behind : Folder → Type 0) → IsPart May Before
+      → IsPart May Behind → front ++ full ∷ back ≡ fulls → ((file : List ℕ) → F file → G file) → (M → N)
+      → AreSearched packages front p old mid Before → (e : Ending)
+      → EndsRun packages full p mid new (Err e) F M Behind → EndsRuns packages fulls p old new (Err e) G N May
+  package_ends fulls front back full p old mid new F G M N May Before Behind first second cut failed missed a e h =
+      record {
+        ended =
+            if_ended (λ v. HasEndedRun packages full F M v Behind) (λ v. HasEndedRuns packages fulls G N v May) e
+            (λ v has. subst (λ (fs : List (List ℕ)). HasEndedRuns packages fs G N v May) cut
+            (runs_ended May Before Behind first second front back full p old mid F G M N failed missed a v has))
+            h.ended;
+        searched = tt;
+      }
 
--- the same of a path that is the package's
-pub path_answer : (packages : List ℕ) (folder : Option Folder) (o : Option (End Ran Stop)) (path other : List ℕ)
-    → path ≡ other
-    → IfSome folder (λ files. IfSome o (IsAnswer (theory_run packages path files).answer))
-    → IfSome folder (λ files. IfSome o (IsAnswer (theory_run packages other files).answer))
-path_answer packages folder o path other same ended =
-    subst (λ (z : List ℕ). IfSome folder (λ files. IfSome o (IsAnswer (theory_run packages z files).answer))) same
-    ended
+  pub all_searched : (fulls : List (List ℕ)) (p : Tm Name) (old new : Search) (F : List ℕ → Type 0) (M : Type 0)
+      (May : Folder → Type 0) → AreSearched packages fulls p old new May
+      → EndsRuns packages fulls p old new (Ok tt) F M May
+  all_searched fulls p old new F M May a = record { ended = tt; searched = a }
+
+  -- the run of a package ends the task
+  run_ended : (full : List ℕ) (F : List ℕ → Type 0) (M : Type 0) (May : Folder → Type 0) (o : Option (End Ran Stop))
+      → IfSome o (λ e. HasTheoryEnd packages (package_path packages full) F M e May) → (v : Verdict)
+      → IsSomeAnd o (IsStopVerdict v) → HasEndedRun packages full F M v May
+  run_ended full F M May None ended v said = absurd said
+  run_ended full F M May (Some (Finished r)) ended v said = absurd said
+  run_ended full F M May (Some (Stopped s)) ended v said = AtStop s said ended.end tt ended.cause.1
+  run_ended full F M May (Some (Failed file)) ended v said = AtFailure file said ended.cause
+
+  pub run_stopped : (full : List ℕ) (p : Tm Name) (old new : Search) (F : List ℕ → Type 0) (M : Type 0)
+      (May : Folder → Type 0) (o : Option (End Ran Stop)) (r : Result Verdict NoMemory)
+      → IfSome o (λ e. HasTheoryEnd packages (package_path packages full) F M e May)
+      → IfOk r (λ v. IsSomeAnd o (IsStopVerdict v))
+      → EndsRun packages full p old new (Err (ending_of r)) F M May
+  run_stopped full p old new F M May o r ended said = record {
+    ended =
+        ends_by (λ v. IsSomeAnd o (IsStopVerdict v)) (λ v. HasEndedRun packages full F M v May) r
+        (run_ended full F M May o ended) said;
+    searched = tt;
+  }
+
+  -- a package that was run, and searched
+  pub run_searched : (full : List ℕ) (p : Tm Name) (old new : Search) (r : Result (Unit {0}) Ending)
+      (F : List ℕ → Type 0) (M : Type 0) (May : Folder → Type 0) (ran : Ran)
+      → AnswersIn May (λ folder. (theory_run packages (package_path packages full) folder).answer) (Ok ran)
+      → IsProved (run_lists ran)
+      → OnOk r ((fs : List Found) → HasMatches old fs → HasMatches new (fs ++ matches_in p full (exports_of ran)))
+      → IfErr r (IfEnded (λ v. ⊥)) → EndsRun packages full p old new r F M May
+  run_searched full p old new r F M May ran is proved found ended = record {
+    ended = err_ended (λ v. ⊥) (λ v. HasEndedRun packages full F M v May) r (λ v none. absurd none) ended;
+    searched =
+        on_ok_more _ (IsSearched packages full p old new May) r
+        (λ more. record { ran = ran; ran_is = is; proved = proved; found_more = more }) found;
+  }
 
 -- ---- the exports that are searched
 
@@ -405,12 +433,6 @@ theory_last : (path : List ℕ) (folder : Option Folder) (at : Option (List ℕ)
     → LastInput path folder at
 theory_last path folder at theory = rw (no_standard path theory, theory) tt
 
--- an article requires nothing, so no file is read behind its run
-pub theory_or_same : {F : Type 0} (packages path : List ℕ) (folder : Option Folder) (fulls : List (List ℕ)) (f g : F)
-    → AreRequired packages path folder fulls → (fulls ≡ [] → g ≡ f) → (is_theory path ≡ true) ⊎ (g ≡ f)
-theory_or_same packages path folder fulls f g (inl theory) none = inl theory.0
-theory_or_same packages path folder fulls f g (inr article) none = inr (none article.1)
-
 pub leaves_more : {F S : Type 0} (path : List ℕ) (f g h : F) (i j : S) → LeavesOther path f g i j
     → (is_theory path ≡ true) ⊎ (h ≡ g) → LeavesOther path f h i j
 leaves_more path f g h i j other (inl theory) = rw (no_standard path theory) (rw (no_standard path theory) at other)
@@ -421,277 +443,294 @@ pub last_more : {F : Type 0} (path : List ℕ) (folder : Option Folder) (at : F 
 last_more path folder at g h last (inl theory) = theory_last path folder (at h) theory
 last_more path folder at g h last (inr same) = subst (λ x. LastInput path folder (at x)) (sym same) last
 
-pub walk_last : (packages path : List ℕ) (folder : Option Folder) (at : Option (List ℕ)) (F : List ℕ → Type 0)
-    (M : Type 0) (v : Verdict)
-    → HasEndedWalk packages path folder F M v → LastInput path folder at
-walk_last packages path folder at F M v (AtStop r said is theory cause) = theory_last path folder at theory
-walk_last packages path folder at F M v (AtFailure file said has) = theory_last path folder at has.0
-
-theory_stop : (path : List ℕ) (s : Stop) → is_theory path ≡ true → IsInputStop path s
-theory_stop path s theory = rw theory tt
-
--- the run of the input is needed
-searchable : (packages path : List ℕ) (folder : Option Folder) (fulls : List (List ℕ))
-    → AreRequired packages path folder fulls → IsRequiredFound packages path folder
-searchable packages path folder fulls (inl theory) =
-    rw theory.0 (ends_with fulls (required_in packages path folder) theory.1)
-searchable packages path folder fulls (inr article) = rw article.0 tt
-
-none_required : (packages path : List ℕ) (folder : Option Folder) (fulls : List (List ℕ))
-    → AreRequired packages path folder fulls → is_theory path ≡ false → fulls ≡ []
-none_required packages path folder fulls (inl theory) article =
-    let no : true ≡ false = sym theory.0 ∙ article in absurd cc
-none_required packages path folder fulls (inr none) article = none.1
+pub theory_last_of : (path : List ℕ) (told : Option Folder) (at : Option (List ℕ)) (e : Ending)
+    → IfEnded (λ v. is_theory path ≡ true) e → IfEnded (λ v. LastInput path told at) e
+theory_last_of path told at e theory =
+    if_ended (λ v. is_theory path ≡ true) (λ v. LastInput path told at) e (λ v. theory_last path told at) theory
 
 no_runs : (rs : List PackageRun) (fulls : List (List ℕ)) → map (λ p. p.name) rs ≡ fulls → fulls ≡ [] → rs ≡ []
 no_runs [] fulls each none = refl
 no_runs (r ∷ rs) fulls each none = let e : r.name ∷ map (λ p. p.name) rs ≡ [] = each ∙ none in absurd cc
 
-module _ (packages pattern path : List ℕ) (folder : Option Folder) (input : Option (List ℕ)) where
-  -- by what is required of a theory file
-  required_stop : (r : Refusal) → is_theory path ≡ true
-      → IfSome (required_in packages path folder) (λ answer. answer ≡ Err r)
-      → IfSome (find_at packages pattern path folder input) (λ answer. answer ≡ Err (InRequired r))
-  required_stop r theory is = rw theory (go folder is) where
-    go : (o : Option Folder) → IfSome (required_in packages path o) (λ answer. answer ≡ Err r)
-        → IfSome (option_map (search_theory packages pattern path) o) (λ answer. answer ≡ Err (InRequired r))
-    go None is = tt
-    go (Some files) is = rw is refl
+-- an article requires none
+none_required : (path : List ℕ) (fulls : List (List ℕ)) → (is_theory path ≡ true) ⊎ (fulls ≡ [])
+    → is_theory path ≡ false → fulls ≡ []
+none_required path fulls (inl theory) article = let no : true ≡ false = sym theory ∙ article in absurd cc
+none_required path fulls (inr none) article = none
 
-  -- behind it, by how the run of the input and those of the packages end
-  module _ (fulls : List (List ℕ)) (N : Result Noted Stop → Type 0)
-      (R : Result (List PackageRun) Stop → Type 0) (P : Result Searched FindStop → Type 0)
-      (next : (ran : Result Noted Stop) (runs : List (List ℕ) → Result (List PackageRun) Stop) → N ran
-      → R (runs fulls)
-      → P (search pattern (Ok fulls) ran runs)) where
-    in_theory : (o : Option Folder) → is_theory path ≡ true
-        → IfSome (required_in packages path o) (λ answer. answer ≡ Ok fulls)
-        → IfSome (noted_at packages path o input) N
-        → IfSome (runs_in packages o fulls) R → IfSome (option_map (search_theory packages pattern path) o) P
-    in_theory None theory is ran runs = tt
-    in_theory (Some files) theory is ran runs =
-        let ended : N (noted (theory_shown path files).answer (theory_run packages path files).answer) =
-        rw (no_standard path theory, theory) at ran in
-        subst (λ (r : Result (List (List ℕ)) Refusal). P (search pattern r
-        (noted (theory_shown path files).answer (theory_run packages path files).answer)
-        (package_runs packages files)))
-        (sym is)
-        (next (noted (theory_shown path files).answer (theory_run packages path files).answer)
-        (package_runs packages files) ended runs)
+pub none_asked : (path : List ℕ) (fulls : List (List ℕ)) → (is_theory path ≡ true) ⊎ (fulls ≡ [])
+    → is_standard path ≡ true → fulls ≡ []
+none_asked path fulls article standard = none_required path fulls article (no_theory path standard)
 
-    in_article : fulls ≡ [] → IfSome (noted_at packages path folder input) N → R (Ok [])
-        → IfSome (option_map (λ ran. search pattern (Ok []) ran (λ fs. Ok [])) (noted_at packages path folder input))
-        P
-    in_article none ran runs =
-        mapped (λ ran. search pattern (Ok []) ran (λ fs. Ok [])) P (noted_at packages path folder input)
-        (if_some N (λ r. P (search pattern (Ok []) r (λ fs. Ok []))) (noted_at packages path folder input)
-        (λ r n. subst (λ (fs : List (List ℕ)). P (search pattern (Ok fs) r (λ gs. Ok []))) none
-        (next r (λ fs. Ok []) n runs))
-        ran)
+some_theory : (path : List ℕ) (fulls : List (List ℕ)) → (is_theory path ≡ true) ⊎ (fulls ≡ []) → fulls ≢ []
+    → is_theory path ≡ true
+some_theory path fulls (inl theory) some = theory
+some_theory path fulls (inr none) some = absurd (some none)
 
-    known_search : AreRequired packages path folder fulls → IfSome (noted_at packages path folder input) N
-        → IfSome (runs_in packages folder fulls) R → (fulls ≡ [] → R (Ok []))
-        → IfSome (find_at packages pattern path folder input) P
-    known_search required ran runs none = go (is_theory path) refl required where
-      go : (b : Bool) → is_theory path ≡ b → AreRequired packages path folder fulls
-          → IfSome (if b then option_map (search_theory packages pattern path) folder
-          else option_map (λ ran. search pattern (Ok []) ran (λ fs. Ok [])) (noted_at packages path folder input))
-          P
-      go true e (inl theory) = in_theory folder theory.0 theory.1 ran runs
-      go true e (inr article) = let no : true ≡ false = sym e ∙ article.0 in absurd cc
-      go false e (inl theory) = let no : false ≡ true = sym e ∙ theory.0 in absurd cc
-      go false e (inr article) = in_article article.1 ran (none article.1)
+module _ (packages pattern path : List ℕ) where
+  -- ---- how the stated search goes on
 
-  module _ (fulls : List (List ℕ)) (required : AreRequired packages path folder fulls) where
-    run_stop : (s : Stop) → IfSome (noted_at packages path folder input) (λ answer. answer ≡ Err s)
-        → IfSome (find_at packages pattern path folder input) (λ answer. answer ≡ Err (InRun s))
-    run_stop s is =
-        known_search fulls (λ answer. answer ≡ Err s) (λ answer. Unit {0}) (λ answer. answer ≡ Err (InRun s))
-        (λ ran runs n r. rw n refl) required is (unknown (runs_in packages folder fulls)) (λ none. tt)
+  module _ (world : World) where
+    find_required : (r : Refusal) → required_at packages path world.folder ≡ Err r
+        → find_at packages pattern path world ≡ Err (InRequired r)
+    find_required r is =
+        ap (λ a. search pattern a (noted_at packages path world) (package_runs packages world.folder)) is
 
-    module _ (n : Noted) (ran : IfSome (noted_at packages path folder input) (λ answer. answer ≡ Ok n)) where
-      pattern_stop : (r : RefusedLine) → at_line 1 (term_read (notation n) pattern) ≡ Err r
-          → IfSome (find_at packages pattern path folder input) (λ answer. answer ≡ Err (InPattern r))
-      pattern_stop r is =
-          known_search fulls (λ answer. answer ≡ Ok n) (λ answer. Unit {0}) (λ answer. answer ≡ Err (InPattern r))
-          (λ x runs e u. rw (e, is) refl) required ran (unknown (runs_in packages folder fulls)) (λ none. tt)
+    module _ (fulls : List (List ℕ)) (required : required_at packages path world.folder ≡ Ok fulls) where
+      find_run : (s : Stop) → noted_at packages path world ≡ Err s
+          → find_at packages pattern path world ≡ Err (InRun s)
+      find_run s is = λ i. search pattern (required i) (is i) (package_runs packages world.folder)
 
-      module _ (p : Tm Name) (reads : term_read (notation n) pattern ≡ Ok p) where
-        runs_stop_search : (s : Stop) → fulls ≢ [] → IfSome (runs_in packages folder fulls) (λ answer. answer ≡ Err s)
-            → IfSome (find_at packages pattern path folder input) (λ answer. answer ≡ Err (InRun s))
-        runs_stop_search s some is =
-            known_search fulls (λ answer. answer ≡ Ok n) (λ answer. answer ≡ Err s) (λ answer. answer ≡ Err (InRun s))
-            (λ x runs e u. rw (e, reads, u) refl) required ran is (λ none. absurd (some none))
+      module _ (n : Noted) (ran : noted_at packages path world ≡ Ok n) where
+        behind : (x : Result Searched FindStop)
+            → search pattern (Ok fulls) (Ok n) (package_runs packages world.folder) ≡ x
+            → find_at packages pattern path world ≡ x
+        behind x is = (λ i. search pattern (required i) (ran i) (package_runs packages world.folder)) ∙ is
 
-        search_ends : (rs : List PackageRun) → map (λ q. q.name) rs ≡ fulls
-            → IfSome (runs_in packages folder fulls) (λ answer. answer ≡ Ok rs)
-            → IfSome (find_at packages pattern path folder input)
-            (λ answer. answer ≡ Ok (record { noted = n; pattern = p; packages = rs }))
-        search_ends rs each is =
-            known_search fulls (λ answer. answer ≡ Ok n) (λ answer. answer ≡ Ok rs)
-            (λ answer. answer ≡ Ok (record { noted = n; pattern = p; packages = rs }))
-            (λ x runs e u. rw (e, reads, u) refl) required ran is (λ none. ap Ok (sym (no_runs rs fulls each none)))
+        find_pattern : (r : RefusedLine) → at_line 1 (term_read (notation n) pattern) ≡ Err r
+            → find_at packages pattern path world ≡ Err (InPattern r)
+        find_pattern r is = behind (Err (InPattern r)) (rw is refl)
+
+        find_packages : (p : Tm Name) → term_read (notation n) pattern ≡ Ok p → (s : Stop)
+            → package_runs packages world.folder fulls ≡ Err s
+            → find_at packages pattern path world ≡ Err (InRun s)
+        find_packages p reads s is = behind (Err (InRun s)) (rw (reads, is) refl)
+
+        find_ends : (p : Tm Name) → term_read (notation n) pattern ≡ Ok p → (rs : List PackageRun)
+            → package_runs packages world.folder fulls ≡ Ok rs
+            → find_at packages pattern path world ≡ Ok (searched_of n p rs)
+        find_ends p reads rs is = behind (Ok (searched_of n p rs)) (rw (reads, is) refl)
 
   -- ---- what ends its parts ends it
 
-  pub walk_ends : (I : Type 0) (F : List ℕ → Type 0) (M : Type 0) (v : Verdict)
-      → HasEndedWalk packages path folder F M v
-      → HasEndedSearch packages pattern path folder input I F M v
-  walk_ends I F M v (AtStop r said is theory cause) =
-      AtStop (InRequired r) said (required_stop r theory is) theory cause
-  walk_ends I F M v (AtFailure file said has) =
-      AtFailure file said (inr (
-        has.0,
-        if_some (λ files. IsWalked files limits.theory_bytes packages path file)
-            (λ files. IsSearchFile packages pattern path files file) folder (λ files walked. OfWalk file walked) has.1,
-        has.2,
+  walk_ends : (I : Type 0) (F : List ℕ → Type 0) (M : Type 0) (May : World → Type 0) (Folders : Folder → Type 0)
+      → HasFolders May Folders → (v : Verdict) → HasEndedWalk packages path F M v Folders
+      → HasEndedSearch packages pattern path I F M v May
+  walk_ends I F M May Folders has v (AtStop r said is theory cause) =
+      AtStop (InRequired r) said (λ world may. find_required world r (is world.folder (has world may))) theory cause
+  walk_ends I F M May Folders has v (AtFailure file said h) =
+      AtFailure file said (inr (h.0, λ world may. OfWalk file (h.1 world.folder (has world may)), h.2))
+
+  pub walk_ends_search : (told : Option Folder) (left : Option (List ℕ)) (I : Type 0) (F : List ℕ → Type 0) (M : Type 0)
+      (e : Ending) → HasReadFolder told (EndsWalk packages path (Err e) F M)
+      → HasReadWorld told left left (EndsSearch packages pattern path (Err e) I F M)
+  walk_ends_search told left I F M e walk =
+      world_of_folder told left _ _ (λ May Folders has w. record {
+        ended =
+            if_ended (λ v. HasEndedWalk packages path F M v Folders)
+            (λ v. HasEndedSearch packages pattern path I F M v May) e (walk_ends I F M May Folders has) w.ended;
+        searched = tt;
+      }) walk
+
+  -- the packages are those that are required
+  abbrev Require : (fulls : List (List ℕ)) → (May : World → Type 0) → Type 0
+  Require fulls May = Every May (λ world. required_at packages path world.folder ≡ Ok fulls)
+
+  input_ends : (fulls : List (List ℕ)) (I : Type 0) (F G : List ℕ → Type 0) (M N : Type 0)
+      (May Behind : World → Type 0) → Require fulls May → IsPart May Behind
+      → ((file : List ℕ) → F file → G file) → (M → N) → (v : Verdict) → HasEndedInput packages path I F M v Behind
+      → HasEndedSearch packages pattern path I G N v May
+  input_ends fulls I F G M N May Behind required part failed missed v (AtStop s said is own cause) =
+      AtStop (InRun s) said
+      (λ world may. find_run world fulls (required world may) s (is world (part world may))) own
+      (λ none. missed (cause none))
+  input_ends fulls I F G M N May Behind required part failed missed v (AtFailure file said h) =
+      AtFailure file said (inl (
+        more_path (is_standard path) ((file ≡ path) × I) _ _ (F file) (G file)
+            (λ needed world may. needed world (part world may)) (failed file) h,
+        λ world may. no_stop fulls (required_at packages path world.folder) (required world may),
       ))
 
-  module _ (fulls : List (List ℕ)) (required : AreRequired packages path folder fulls) where
-    pub input_ends : (I : Type 0) (F : List ℕ → Type 0) (M : Type 0) (v : Verdict)
-        → HasEndedInput packages path folder input I F M v
-        → HasEndedSearch packages pattern path folder input I F M v
-    input_ends I F M v (AtStop s said is own cause) = AtStop (InRun s) said (run_stop fulls required s is) own cause
-    input_ends I F M v (AtFailure file said has) =
-        AtFailure file said (inl (has, searchable packages path folder fulls required))
+  pub input_ends_search : (told : Option Folder) (left left' : Option (List ℕ)) (fulls : Vec (String Global) Global)
+      (s : Session) (I : Type 0) (F₀ F G : List ℕ → Type 0) (M₀ M N : Type 0) (e : Ending)
+      → ((file : List ℕ) → F file → G file) → (M → N)
+      → HasReadFolder told (EndsWalk packages path (Ok fulls) F₀ M₀)
+      → HasReadWorld told left left' (EndsInput packages path s (Err e) I F M)
+      → HasReadWorld told left left' (EndsSearch packages pattern path (Err e) I G N)
+  input_ends_search told left left' fulls s I F₀ F G M₀ M N e failed missed walk input =
+      folder_then_world told left left' _ _ _ (λ May Folders Behind has part w i. record {
+        ended =
+            if_ended (λ v. HasEndedInput packages path I F M v Behind)
+            (λ v. HasEndedSearch packages pattern path I G N v May) e
+            (input_ends (names_of fulls) I F G M N May Behind (λ world may. w.found world.folder (has world may)) part
+            failed missed)
+            i.ended;
+        searched = tt;
+      }) walk input
 
-    module _ (n : Noted) (ran : IfSome (noted_at packages path folder input) (λ answer. answer ≡ Ok n)) where
-      pub pattern_ends : (I : Type 0) (F : List ℕ → Type 0) (M : Type 0) (v : Verdict) → HasEndedPattern n pattern v
-          → HasEndedSearch packages pattern path folder input I F M v
-      pattern_ends I F M v (AtStop r said is own cause) =
-          AtStop (InPattern r) said (pattern_stop fulls required n ran r is) own (λ none. no_file none)
-      pattern_ends I F M v (AtFailure file said has) = absurd has
+  -- behind the run of the input
+  module _ (fulls : List (List ℕ)) (n : Noted) (article : (is_theory path ≡ true) ⊎ (fulls ≡ []))
+      (May : World → Type 0) (needs : Require fulls May) (ran : IsResult (ShowReadable packages path) May (Ok n))
+      (Folders : Folder → Type 0) (has : HasFolders May Folders) (I : Type 0) (F G : List ℕ → Type 0) (M N : Type 0)
+      (failed : (file : List ℕ) → F file → G file) (missed : M → N) where
+    of_package : (p : Tm Name) → IsPattern n pattern p → (file : List ℕ) → is_theory path ≡ true
+        → (h : IsRunFile packages fulls F Folders file)
+        → Every May (λ world. IsSearchFile packages pattern path world.folder file)
+    of_package p is_p file theory h = λ world may.
+        let walked : required world.folder limits.theory_bytes packages path ≡ Ok fulls =
+        rw theory at (needs world may) in
+        let ended : noted (theory_shown path world.folder).answer (theory_run packages path world.folder).answer
+        ≡ Ok n = rw (no_standard path theory, theory) at (ran world may) in
+        OfPackage file h.full h.front h.back n p h.runs (walked ∙ ap Ok h.among) ended is_p.is_read
+        (h.runs_are world.folder (has world may)) (h.opened world.folder (has world may))
 
-      pub runs_end : (p : Tm Name) → IsPattern n pattern p → (I : Type 0) (F : List ℕ → Type 0) (M : Type 0)
-          (v : Verdict)
-          → HasEndedRuns packages fulls folder F M v
-          → HasEndedSearch packages pattern path folder input I F M v
-      runs_end p is_p I F M v ended = go required v ended where
-        of_package : (o : Option Folder) (file full : List ℕ) (front back : List (List ℕ)) (rs : List PackageRun)
-            → is_theory path ≡ true → IfSome (required_in packages path o) (λ answer. answer ≡ Ok fulls)
-            → fulls ≡ front ++ full ∷ back → IfSome (noted_at packages path o input) (λ answer. answer ≡ Ok n)
-            → IfSome (runs_in packages o front) (λ answer. answer ≡ Ok rs)
-            → IfSome o (λ files. IsMember file (theory_run packages (package_path packages full) files).paths)
-            → IfSome o (λ files. IsSearchFile packages pattern path files file)
-        of_package None file full front back rs theory is among run runs opened = tt
-        of_package (Some files) file full front back rs theory is among run runs opened =
-            let ended : noted (theory_shown path files).answer (theory_run packages path files).answer ≡ Ok n =
-            rw (no_standard path theory, theory) at run in
-            OfPackage file full front back n p rs (is ∙ ap Ok among) ended is_p.is_read runs opened
+    runs_end : (p : Tm Name) → IsPattern n pattern p → (v : Verdict) → HasEndedRuns packages fulls F M v Folders
+        → HasEndedSearch packages pattern path I G N v May
+    runs_end p is_p v (AtStop s said is some cause) =
+        AtStop (InRun s) said
+        (λ world may. find_packages world fulls (needs world may) n (ran world may) p is_p.is_read s
+        (is world.folder (has world may)))
+        (theory_stop path s (some_theory path fulls article some)) (λ none. missed (cause none))
+    runs_end p is_p v (AtFailure file said h) =
+        let theory = some_theory path fulls article (λ none. no_texts h.front h.back h.full (sym h.among ∙ none)) in
+        AtFailure file said (inr (theory, of_package p is_p file theory h, failed file h.fails))
 
-        go : AreRequired packages path folder fulls → (v : Verdict)
-            → HasEndedRuns packages fulls folder F M v
-            → HasEndedSearch packages pattern path folder input I F M v
-        go (inl theory) v (AtStop s said is some cause) =
-            AtStop (InRun s) said (runs_stop_search fulls required n ran p is_p.is_read s some is)
-            (theory_stop path s theory.0) cause
-        go (inl theory) v (AtFailure file said has) =
-            AtFailure file said
-            (inr (
-              theory.0,
-              of_package folder file has.full has.front has.back has.runs theory.0 theory.1 has.among ran has.runs_are
-                  has.opened,
-              has.fails,
-            ))
-        go (inr article) v (AtStop s said is some cause) = absurd (some article.1)
-        go (inr article) v (AtFailure file said has) =
-            absurd (no_texts has.front has.back has.full (sym has.among ∙ article.1))
+    behind_ends : (v : Verdict) → HasEndedBehind packages pattern n fulls F M v Folders
+        → HasEndedSearch packages pattern path I G N v May
+    behind_ends v (AtPattern (AtStop r said is own cause)) =
+        AtStop (InPattern r) said
+        (λ world may. find_pattern world fulls (needs world may) n (ran world may) r is) own (λ none. no_file none)
+    behind_ends v (AtPattern (AtFailure file said none)) = absurd none
+    behind_ends v (AtRuns p is_p ended) = runs_end p is_p v ended
 
-      -- it ended with its matches
-      pub has_searched : MatchesAreThose → MatchesOfOneMore → (p : Tm Name) → IsPattern n pattern p
-          → (start mid end : Search)
-          → IsProved (run_lists n.ran) → HasMatches start []
-          → AreSearched packages fulls folder p start mid
-          → ((fs : List Found) → HasMatches mid fs → HasMatches end (fs ++ matches_in p path (exports_of n.ran)))
-          → HasSearched packages pattern path folder input end
-      has_searched those more p is_p start mid end proved empty a last =
-          let made : Searched = record { noted = n; pattern = p; packages = a.runs } in
-          record {
-            made = made;
-            ended = search_ends fulls required n ran p is_p.is_read a.runs a.each a.runs_are;
+    searched_ends : (search : Search) → HasSearchedBehind packages pattern path n fulls search Folders
+        → HasSearched packages pattern path search May
+    searched_ends search h = record {
+      made = searched_of n h.term h.runs;
+      ended = λ world may.
+          find_ends world fulls (needs world may) n (ran world may) h.term h.is_pattern.is_read h.runs
+          (h.runs_are world.folder (has world may));
+      proved = h.proved;
+      promised = record {
+        reads = h.is_pattern.reads;
+        matches_are = h.matches_are;
+        proved = h.all_proved;
+        none = λ no. no_runs h.runs fulls h.each (none_required path fulls article no);
+      };
+      found = h.found;
+    }
+
+    ends_search : (result : Result Search Ending)
+        → EndsBehind packages pattern path n fulls result F M Folders
+        → EndsSearch packages pattern path result I G N May
+    ends_search result h = record {
+      ended =
+          err_ended (λ v. HasEndedBehind packages pattern n fulls F M v Folders)
+          (λ v. HasEndedSearch packages pattern path I G N v May) result behind_ends h.ended;
+      searched =
+          ok_more (λ search. HasSearchedBehind packages pattern path n fulls search Folders)
+          (λ search. HasSearched packages pattern path search May) result searched_ends h.searched;
+    }
+
+  -- what is required, and the run of the input, are these
+  record HasInput (fulls : List (List ℕ)) (n : Noted) (May : World → Type 0) : Type 0 where
+    needs : Require fulls May
+    ran : IsResult (ShowReadable packages path) May (Ok n)
+
+  pub search_ends_search : (told : Option Folder) (left left' : Option (List ℕ)) (fulls : Vec (String Global) Global)
+      (s : Session) (run : NotedRun) (result : Result Search Ending) (I : Type 0) (F₀ F₁ F G : List ℕ → Type 0)
+      (M₀ M₁ M N : Type 0)
+      → (is_theory path ≡ true) ⊎ (names_of fulls ≡ []) → ((file : List ℕ) → F file → G file) → (M → N)
+      → HasReadFolder told (EndsWalk packages path (Ok fulls) F₀ M₀)
+      → HasReadWorld told left left' (EndsInput packages path s (Ok run) I F₁ M₁)
+      → HasReadFolder told (EndsBehind packages pattern path (noted_of s run) (names_of fulls) result F M)
+      → HasReadWorld told left left' (EndsSearch packages pattern path result I G N)
+  search_ends_search told left left' fulls s run result I F₀ F₁ F G M₀ M₁ M N article failed missed walk input behind =
+      let n = noted_of s run in
+      let both : HasReadWorld told left left' (HasInput (names_of fulls) n) =
+      folder_then_world told left left' _ _ _ (λ May Folders Behind has part w i. record {
+        needs = λ world may. w.found world.folder (has world may);
+        ran = λ world may. i.ran world (part world may);
+      }) walk input in
+      world_then_folder told left left' _ _ _ (λ May Before Folders part has h b.
+      ends_search (names_of fulls) n article May (λ world may. h.needs world (part world may))
+      (λ world may. h.ran world (part world may)) Folders has I F G M N failed missed result b) both behind
+
+  -- ---- behind the run of the input
+
+  module _ (n : Noted) (fulls : List (List ℕ)) (F : List ℕ → Type 0) (M : Type 0) (May : Folder → Type 0) where
+    pub pattern_behind : (e : Ending) → IfEnded (HasEndedPattern n pattern) e
+        → EndsBehind packages pattern path n fulls (Err e) F M May
+    pattern_behind e ended = record {
+      ended =
+          if_ended (HasEndedPattern n pattern) (λ v. HasEndedBehind packages pattern n fulls F M v May) e
+          (λ v has. AtPattern has) ended;
+      searched = tt;
+    }
+
+    pub runs_behind : (p : Tm Name) → IsPattern n pattern p → (old new : Search) (e : Ending)
+        → EndsRuns packages fulls p old new (Err e) F M May
+        → EndsBehind packages pattern path n fulls (Err e) F M May
+    runs_behind p is_p old new e h = record {
+      ended =
+          if_ended (λ v. HasEndedRuns packages fulls F M v May)
+          (λ v. HasEndedBehind packages pattern n fulls F M v May) e (λ v has. AtRuns p is_p has) h.ended;
+      searched = tt;
+    }
+
+    pub exports_behind : (e : Ending) → IfEnded (λ v. ⊥) e → EndsBehind packages pattern path n fulls (Err e) F M May
+    exports_behind e none = record {
+      ended =
+          if_ended (λ v. ⊥) (λ v. HasEndedBehind packages pattern n fulls F M v May) e (λ v h. absurd h) none;
+      searched = tt;
+    }
+
+    pub searched_behind : MatchesAreThose → MatchesOfOneMore → (p : Tm Name) → IsPattern n pattern p
+        → (start mid end : Search) → IsProved (run_lists n.ran) → HasMatches start []
+        → AreSearched packages fulls p start mid May
+        → ((fs : List Found) → HasMatches mid fs → HasMatches end (fs ++ matches_in p path (exports_of n.ran)))
+        → EndsBehind packages pattern path n fulls (Ok end) F M May
+    searched_behind those more p is_p start mid end proved empty a last =
+        let made = searched_of n p a.runs in
+        record {
+          ended = tt;
+          searched = record {
+            term = p;
+            is_pattern = is_p;
+            runs = a.runs;
+            runs_are = a.runs_are;
+            each = a.each;
             proved = proved;
-            promised = record {
-              reads = is_p.reads;
-              matches_are = (those p (sources path made) (found path made)).1 refl;
-              proved = a.proved;
-              none = λ article.
-                  no_runs a.runs fulls a.each (none_required packages path folder fulls required article);
-            };
+            all_proved = a.proved;
+            matches_are = (those p (sources path made) (found path made)).1 refl;
             found =
                 subst (HasMatches end)
                 (sym (more p (map source_of a.runs) (record { name = path; exports = exports_of n.ran })))
                 (last (matches p (map source_of a.runs)) (a.found_more [] empty));
-          }
+          };
+        }
 
   -- ---- its verdict
 
-  -- an end that the verdict is on
-  pub record HasEnd (I : Type 0) (F : List ℕ → Type 0) (M : Type 0) (v : Verdict) : Type 0 where
-    pub end : End Searched FindStop
-    pub on : IsVerdictOn (FindPattern packages pattern path) v end
-    pub known : IsEnd (FindPattern packages pattern path) folder input end
-    pub cause : HasTaskCause (FindPattern packages pattern path) folder input I F M end
+  verdict_at : (I : Type 0) (F : List ℕ → Type 0) (M : Type 0) (May : World → Type 0) (v : Verdict)
+      (e : End Searched FindStop) → IsVerdictOn (FindPattern packages pattern path) v e → HasTaskEnd (FindPattern packages pattern path) I F M e May → IsTaskVerdict (FindPattern packages pattern path) I F M v May
+  verdict_at I F M May v e on ended = task_verdict {E = Unit {0}} I F M (FindPattern packages pattern path) May (Some e) (Ok v) on ended
 
-  pub ended_end : (I : Type 0) (F : List ℕ → Type 0) (M : Type 0) (v : Verdict)
-      → HasEndedSearch packages pattern path folder input I F M v
-      → HasEnd I F M v
-  ended_end I F M v (AtStop s said is own cause) =
-      record { end = Stopped s; on = said; known = is; cause = (own, cause) }
-  ended_end I F M v (AtFailure file said has) = record {
-    end = Failed file;
-    on = said;
-    known = unknown (find_at packages pattern path folder input);
-    cause = has;
-  }
+  -- of a search that ended so
+  ended_end : (I : Type 0) (F : List ℕ → Type 0) (M : Type 0) (May : World → Type 0) (v : Verdict)
+      → HasEndedSearch packages pattern path I F M v May → IsTaskVerdict (FindPattern packages pattern path) I F M v May
+  ended_end I F M May v (AtStop s said is own cause) =
+      verdict_at I F M May v (Stopped s) said (record { end = is; cause = (own, cause) })
+  ended_end I F M May v (AtFailure file said has) =
+      verdict_at I F M May v (Failed file) said (record { end = λ world may. tt; cause = has })
 
-  pub found_end : (I : Type 0) (F : List ℕ → Type 0) (M : Type 0) (search : Search)
-      (h : HasSearched packages pattern path folder input search)
-      → TextsNameOne → (v : Verdict)
-      → FoundEndsAs path (found path h.made) v → HasEnd I F M v
-  found_end I F M search h one v ends = record {
-    end = Finished h.made;
-    on = record {
-      ends = ends;
-      proved = h.proved;
-      promised = λ fit. h.promised;
-      one_text = one;
-    };
-    known = h.ended;
-    cause = tt;
-  }
+  pub said_verdict : (I : Type 0) (F : List ℕ → Type 0) (M : Type 0) (May : World → Type 0) (v : Verdict)
+      → EndsSearch packages pattern path (Err (endings.Said v)) I F M May → IsTaskVerdict (FindPattern packages pattern path) I F M v May
+  said_verdict I F M May v h = ended_end I F M May v h.ended
 
-  pub end_verdict : (at : Option (List ℕ)) (I : Type 0) (F : List ℕ → Type 0) (M : Type 0) (v : Verdict)
-      → HasEnd I F M v → LastInput path folder at
-      → IsTaskVerdict (FindPattern packages pattern path) folder input at I F M v
-  end_verdict at I F M v h last =
-      task_verdict {E = Unit {0}} I F M (FindPattern packages pattern path) folder input at (Some h.end) (Ok v)
-      h.on h.known h.cause last
+  found_end : (I : Type 0) (F : List ℕ → Type 0) (M : Type 0) (May : World → Type 0) (search : Search)
+      (h : HasSearched packages pattern path search May) → TextsNameOne → (v : Verdict)
+      → FoundEndsAs path (found path h.made) v → IsTaskVerdict (FindPattern packages pattern path) I F M v May
+  found_end I F M May search h one v ends =
+      verdict_at I F M May v (Finished h.made)
+      (record { ends = ends; proved = h.proved; promised = λ fit. h.promised; one_text = one })
+      (record { end = h.ended; cause = tt })
 
-  failed_later : (I : Type 0) (at : Option (List ℕ)) (f0 f1 f2 : ℕ) → f0 ≤ f1 → (file : List ℕ)
-      → IsFailedPath (FindPattern packages pattern path) folder input I (FileFailed at f1 f2) file
-      → IsFailedPath (FindPattern packages pattern path) folder input I (FileFailed at f0 f2) file
-  failed_later I at f0 f1 f2 faults file (inl has) =
-      inl (
-        more_path (is_standard path) ((file ≡ path) × I)
-            (IfSome (opened (FindPattern packages pattern path) folder) (IsMember file))
-            (IfSome (opened (FindPattern packages pattern path) folder) (IsMember file)) (FileFailed at f1 f2 file)
-            (FileFailed at f0 f2 file) (λ h. h) (file_later at f0 f1 f2 faults file) has.0,
-        has.1,
-      )
-  failed_later I at f0 f1 f2 faults file (inr has) = inr (has.0, has.1, file_later at f0 f1 f2 faults file has.2)
-
-  -- an ending of the search, counted from before what came before it
-  pub search_later : {X : Type 0} (I : Type 0) (at : Option (List ℕ)) (f0 f1 f2 m0 m1 m2 : ℕ) (r : Result X Ending)
-      → f0 ≤ f1
-      → m0 ≤ m1
-      → IfErr r
-      (IfEnded (HasEndedSearch packages pattern path folder input I (FileFailed at f1 f2) (CountRose m1 m2)))
-      → IfErr r
-      (IfEnded (HasEndedSearch packages pattern path folder input I (FileFailed at f0 f2) (CountRose m0 m2)))
-  search_later I at f0 f1 f2 m0 m1 m2 r faults misses =
-      err_ended (HasEndedSearch packages pattern path folder input I (FileFailed at f1 f2) (CountRose m1 m2))
-      (HasEndedSearch packages pattern path folder input I (FileFailed at f0 f2) (CountRose m0 m2)) r
-      (ended_later (find_at packages pattern path folder input) find_status find_line (IsFindStop path)
-      (IsFailedPath (FindPattern packages pattern path) folder input I (FileFailed at f1 f2))
-      (IsFailedPath (FindPattern packages pattern path) folder input I (FileFailed at f0 f2)) (CountRose m1 m2)
-      (CountRose m0 m2) (failed_later I at f0 f1 f2 faults) (rose_later m0 m1 m2 misses))
+  pub found_verdict : {E : Type 0} (I : Type 0) (F : List ℕ → Type 0) (M : Type 0) (May : World → Type 0)
+      (search : Search) (r : Result Verdict E) → TextsNameOne
+      → ((fs : List Found) → HasMatches search fs → IfOk r (FoundEndsAs path fs))
+      → EndsSearch packages pattern path (Ok search) I F M May → IfOk r (λ v. IsTaskVerdict (FindPattern packages pattern path) I F M v May)
+  found_verdict I F M May search r one ends h =
+      let s = h.searched in
+      ok_more (FoundEndsAs path (found path s.made)) (λ v. IsTaskVerdict (FindPattern packages pattern path) I F M v May) r
+      (found_end I F M May search s one) (ends (found path s.made) s.found)

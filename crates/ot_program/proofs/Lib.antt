@@ -1,5 +1,7 @@
 -- The program: lines of text, runs, logs, verdicts, and replies.
 pub mod TextLemmas
+pub mod Worlds
+pub mod TaskEnds
 pub mod InputLemmas
 pub mod LimitLemmas
 pub mod RunLemmas

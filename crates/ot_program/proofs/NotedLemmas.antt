@@ -6,7 +6,6 @@ use Rattle.std.specs.Prelude.{None, IfSome, IsSomeAnd, Result, Ok, Err, IfOk, On
 use Rattle.std.specs.Global.{Global}
 use Rattle.std.specs.Option.{option_map}
 use Rattle.std.specs.Prelude.{string_bytes}
-use Rattle.std.proofs.lemmas.Slice.Eq.{bytes_eq-Decides}
 use Rattle.std.proofs.lemmas.Simd.{map-map}
 use Rattle.std.proofs.Math.Nat.{min-le_left, min-le_right, le-min}
 use Rattle.std.proofs.lemmas.Bool.{lt-leb}
@@ -17,7 +16,9 @@ use Rattle.ot_logic.specs.Lists.{IsMember}
 use Rattle.ot_logic.specs.declared.limits.Limits.{Limits}
 use Rattle.ot_io.specs.Causes.{CountRose}
 use Rattle.ot_io.specs.Folder.{Folder}
+use Rattle.ot_io.specs.Readings.{HasReadFiles}
 use Rattle.ot_io.proofs.Keeping.{KeepsFiles-then}
+use Rattle.ot_io.proofs.Readings.{Files-none, Files-map}
 use Rattle.ot_args.specs.Grammar.{is_theory}
 use Rattle.ot_kernel.specs.State.{State, theorem_at}
 use Rattle.ot_machine.specs.Meaning.{IsRun}
@@ -33,13 +34,15 @@ use Rattle.ot_text.specs.Pages.{Appended}
 use Rattle.ot_print.specs.Laws.{TextsNameOne}
 use Rattle.ot_pretty.specs.Summary.{ReadBack, hidden_in_run, readable_summary, hidden_at, summary_at}
 use Rattle.ot_program.specs.Texts.{large_line}
-use Rattle.ot_program.specs.Reply.{RunInput, ShowReadable, Noted, limits, theory_shown, shown_at, noted_known}
-use Rattle.ot_program.specs.Reply.{opened_first, opened_at, is_standard, readable, notation, assumptions_of}
+use Rattle.ot_program.specs.World.{World, Every, HasReadWorld}
+use Rattle.ot_program.specs.Reply.{RunInput, ShowReadable, Noted, limits, theory_shown, shown_at, noted, run_at}
+use Rattle.ot_program.specs.Reply.{opened_at, is_standard, readable, notation, assumptions_of}
 use Rattle.ot_program.specs.Reply.{definitions_of, exports_of, run_lists, summary_limit, stop_status}
 use Rattle.ot_program.specs.Answer.{IsProved, IsInputStop, FileFailed, IsFailedPath, LeavesOther}
 use Rattle.ot_program.specs.Answer.{ClosesFiles, AreReadBack}
 use Rattle.ot_program.specs.Verdicts.{End, Finished, Stopped, Failed, ran_from, noted_from, noted_end, end_at}
-use Rattle.ot_program.specs.Verdicts.{IsAnswer, HasCause, HasTaskCause, IsSaid, IsStopVerdict, IsVerdictOf}
+use Rattle.ot_program.specs.Verdicts.{IsAnswer, HasCause, HasTaskCause, HasTaskEnd, IsSaid, IsStopVerdict}
+use Rattle.ot_program.specs.Verdicts.{IsVerdictOf}
 use Rattle.ot_program.specs.Verdicts.{ReadableEndsAs}
 use Rattle.ot_program.specs.declared.report.Verdict.{Verdict}
 use Rattle.ot_program.specs.declared.status.Status.TheVariants.{Accepted, Refused}
@@ -47,7 +50,9 @@ use Rattle.ot_program.specs.declared.task.View.{View}
 use Rattle.ot_program.proofs.RunLemmas.{assumptions_are, definitions_are, exports_are}
 use Rattle.ot_program.proofs.LimitLemmas.{text_printed, text_too_large}
 use Rattle.ot_logic.proofs.Members.{IsMember-left, IsMember-right}
-use Rattle.ot_program.proofs.Options.{unknown}
+use Rattle.ot_program.proofs.InputLemmas.{theory_stop, no_standard}
+use Rattle.ot_program.proofs.TaskEnds.{task_ended, file_path}
+use Rattle.ot_program.proofs.Worlds.{IsPart, HasFolders, folder_of, folder_then_world, world_of_files}
 
 -- ---- what an input shows
 
@@ -61,77 +66,54 @@ theory_comes r path folder l same comes k =
     (shown (record { folder = folder; packages = []; limits = m }) path))
     same (comes k)
 
-known_comes : (r : Result (Vec Name Global) LinkFault) (path : List ℕ) (folder : Option Folder) (l : Limits)
-    → l ≡ limits
-    → IfSome folder (λ files. (k : State)
-    → Comes k (λ ns. ns.items) r (shown (record { folder = files; packages = []; limits = l }) path))
-    → IfSome (option_map (theory_shown path) folder) (λ x. (k : State) → Comes k (λ ns. ns.items) r x)
-known_comes r path None l same comes = tt
-known_comes r path (Some files) l same comes = theory_comes r path files l same comes
+pub shown_comes : (r : Result (Vec Name Global) LinkFault) (path : List ℕ) (told : Option Folder) (l : Limits)
+    → l ≡ limits → is_theory path ≡ true
+    → HasReadFiles told (λ folder. (k : State)
+    → Comes k (λ ns. ns.items) r (shown (record { folder = folder; packages = []; limits = l }) path))
+    → HasReadFiles told (λ folder. (k : State) → Comes k (λ ns. ns.items) r (shown_at path folder))
+shown_comes r path told l same theory comes =
+    Files-map told _ _ (λ folder c. rw theory (theory_comes r path folder l same c)) comes
 
-pub shown_comes : (r : Result (Vec Name Global) LinkFault) (path : List ℕ) (folder : Option Folder) (l : Limits)
-    → l ≡ limits
-    → is_theory path ≡ true
-    → IfSome folder (λ files. (k : State)
-    → Comes k (λ ns. ns.items) r (shown (record { folder = files; packages = []; limits = l }) path))
-    → IfSome (shown_at path folder) (λ x. (k : State) → Comes k (λ ns. ns.items) r x)
-shown_comes r path folder l same theory comes = rw theory (known_comes r path folder l same comes)
-
--- standard input is no theory file
-pub no_standard : (path : List ℕ) → is_theory path ≡ true → is_standard path ≡ false
-no_standard path theory = go (is_standard path) refl where
-  go : (b : Bool) → is_standard path ≡ b → b ≡ false
-  go false e = refl
-  go true e =
-      let is : path ≡ codes "-" = (bytes_eq-Decides path (codes "-")).0 e in
-      let other : false ≡ true = sym (ap is_theory is) ∙ theory in
-      cc
+-- an article shows nothing
+pub article_shows : (names : Vec Name Global) (path : List ℕ) (told : Option Folder) → is_theory path ≡ false
+    → names.items ≡ []
+    → HasReadFiles told (λ folder. (k : State) → Comes k (λ (ns : Vec Name Global). ns.items) (Ok names)
+    (shown_at path folder))
+article_shows names path told article none =
+    Files-none told _ (λ folder k. rw article (ap Ok (sym none)))
 
 -- ---- the end of the run
 
+abbrev pub Shows : Result (Vec Name Global) LinkFault → Linked (List Name) → Type 0
+Shows r x = (k : State) → Comes k (λ (ns : Vec Name Global). ns.items) r x
+
 -- after what is shown
-pub ends : (k : State) (names : Vec Name Global) (xs : Option (Linked (List Name)))
-    (ran : Option (Linked Ran)) (o : Option (End Ran Stop))
-    → IfSome xs (λ x. (k : State) → Comes k (λ (ns : Vec Name Global). ns.items) (Ok names) x)
-    → IfSome o (λ e. IfSome (option_map (λ l. l.answer) ran) (λ answer. IsAnswer answer e))
-    → IfSome (option_map (noted_end names.items) o) (λ e. IfSome (noted_known xs ran) (λ answer. IsAnswer answer e))
-ends k names xs ran None shows ended = tt
-ends k names None ran (Some e) shows ended = tt
-ends k names (Some x) None (Some e) shows ended = tt
-ends k names (Some x) (Some l) (Some (Finished r)) shows ended = rw (shows k, ended) refl
-ends k names (Some x) (Some l) (Some (Stopped s)) shows ended = rw (shows k, ended) refl
-ends k names (Some x) (Some l) (Some (Failed path)) shows ended = tt
+ends : (k : State) (names : Vec Name Global) (x : Linked (List Name)) (ran : Linked Ran) (e : End Ran Stop)
+    → Shows (Ok names) x → IsAnswer ran.answer e → IsAnswer (noted x.answer ran.answer) (noted_end names.items e)
+ends k names x ran (Finished r) shows ended = λ i. noted (shows k i) (ended i)
+ends k names x ran (Stopped s) shows ended = λ i. noted (shows k i) (ended i)
+ends k names x ran (Failed path) shows ended = tt
 
 -- by a stop of what is shown
-stop_known : (xs : Option (Linked (List Name))) (ran : Option (Linked Ran)) (s : Stop)
-    → IfSome xs (λ x. x.answer ≡ Err s)
-    → IfSome (noted_known xs ran) (λ answer. answer ≡ Err s)
-stop_known None ran s is = tt
-stop_known (Some x) None s is = tt
-stop_known (Some x) (Some l) s is = rw is refl
+stop_first : (x : Linked (List Name)) (ran : Result Ran Stop) (s : Stop) → x.answer ≡ Err s
+    → noted x.answer ran ≡ Err s
+stop_first x ran s is = ap (λ a. noted a ran) is
 
-article_stop : (x : Linked (List Name)) (ran : Option (Linked Ran)) (path : List ℕ) (line : ℕ)
-    (o : Option (Fault Name))
+article_stop : (x : Linked (List Name)) (ran : Result Ran Stop) (path : List ℕ) (line : ℕ) (o : Option (Fault Name))
     → (f : Fault Name) × (o ≡ Some f) × (x.answer ≡ Err (InArticle path line f))
     → let ended : Option (End Ran Stop) = option_map (λ f. Stopped (InArticle path line f)) o in
-    IfSome (option_map (noted_end []) ended) (λ e. IfSome (noted_known (Some x) ran) (λ answer. IsAnswer answer e))
-article_stop x ran path line o is = rw is.1 (stop_known (Some x) ran (InArticle path line is.0) is.2)
+    IfSome (option_map (noted_end []) ended) (IsAnswer (noted x.answer ran))
+article_stop x ran path line o is = rw is.1 (stop_first x ran (InArticle path line is.0) is.2)
 
-pub stops : (k : State) (e : LinkFault) (xs : Option (Linked (List Name))) (ran : Option (Linked Ran))
-    → IfSome xs (λ x. (k : State) → Comes k (λ (ns : Vec Name Global). ns.items) (Err e) x)
-    → IfSome (option_map (noted_end []) (end_at k e)) (λ e. IfSome (noted_known xs ran) (λ answer. IsAnswer answer e))
-stops k e None ran comes = never_known (option_map (noted_end []) (end_at k e)) where
-  never_known : (o : Option (End Noted Stop))
-      → IfSome o (λ e. IfSome (noted_known None ran) (λ answer. IsAnswer answer e))
-  never_known None = tt
-  never_known (Some e) = tt
-stops k (faults.Article path line fault) (Some x) ran comes = article_stop x ran (string_bytes path) line _ (comes k)
-stops k (faults.Theory path line fault) (Some x) ran comes = stop_known (Some x) ran _ (comes k)
-stops k (faults.Structure path line fault) (Some x) ran comes = stop_known (Some x) ran _ (comes k)
-stops k (faults.TheoryTooLarge path) (Some x) ran comes = stop_known (Some x) ran _ (comes k)
-stops k (faults.NoFile path) (Some x) ran comes = stop_known (Some x) ran _ (comes k)
-stops k (faults.ReadFault path) (Some x) ran comes = unknown (noted_known (Some x) ran)
-stops k faults.Memory (Some x) ran comes = tt
+stops : (k : State) (e : LinkFault) (x : Linked (List Name)) (ran : Result Ran Stop) → Shows (Err e) x
+    → IfSome (option_map (noted_end []) (end_at k e)) (IsAnswer (noted x.answer ran))
+stops k (faults.Article path line fault) x ran comes = article_stop x ran (string_bytes path) line _ (comes k)
+stops k (faults.Theory path line fault) x ran comes = stop_first x ran _ (comes k)
+stops k (faults.Structure path line fault) x ran comes = stop_first x ran _ (comes k)
+stops k (faults.TheoryTooLarge path) x ran comes = stop_first x ran _ (comes k)
+stops k (faults.NoFile path) x ran comes = stop_first x ran _ (comes k)
+stops k (faults.ReadFault path) x ran comes = tt
+stops k faults.Memory x ran comes = tt
 
 -- a stop is the same whatever is shown
 same_article : (ns : List Name) (path : List ℕ) (line : ℕ) (o : Option (Fault Name))
@@ -152,19 +134,6 @@ same_stop ns k faults.Memory = refl
 
 -- ---- its cause
 
-later_member : (p : List ℕ) (xs : Option (Linked (List Name))) (paths : Option (List (List ℕ)))
-    → IfSome paths (IsMember p)
-    → IfSome (opened_first xs paths) (IsMember p)
-later_member p None paths is = tt
-later_member p (Some x) None is = tt
-later_member p (Some x) (Some ps) is = IsMember-right p x.paths ps is
-
-first_member : (p : List ℕ) (xs : Option (Linked (List Name))) (paths : Option (List (List ℕ)))
-    → IfSome xs (λ x. IsMember p x.paths) → IfSome (opened_first xs paths) (IsMember p)
-first_member p None paths is = tt
-first_member p (Some x) None is = tt
-first_member p (Some x) (Some ps) is = IsMember-left p x.paths ps is
-
 -- a device that failed later failed since
 pub rose_later : (a b c : ℕ) → a ≤ b → CountRose b c → CountRose a c
 rose_later a b c h r =
@@ -184,30 +153,48 @@ pub more_path : (b : Bool) (X P Q A B : Type 0) → (P → Q) → (A → B) → 
 more_path true X P Q A B needed failed is = is
 more_path false X P Q A B needed failed is = (needed is.0, failed is.1)
 
-file_path : (b : Bool) (X Y : Type 0) → b ≡ false → Y → MatchBool b X Y
-file_path true X Y file is = absurd cc
-file_path false X Y file is = is
-
 -- in the run
-pub causes : (names : List Name) (packages path : List ℕ) (view : View) (folder : Option Folder)
-    (input : Option (List ℕ)) (I : Type 0) (F G : List ℕ → Type 0) (M N : Type 0) (o : Option (End Ran Stop)) → ((file : List ℕ) → F file → G file)
-    → (M → N) → IfSome o (HasTaskCause (RunInput packages path view) folder input I F M)
-    → IfSome (option_map (noted_end names) o) (HasTaskCause (ShowReadable packages path) folder input I G N)
-causes names packages path view folder input I F G M N None failed missed cause = tt
-causes names packages path view folder input I F G M N (Some (Finished r)) failed missed cause = tt
-causes names packages path view folder input I F G M N (Some (Stopped s)) failed missed cause = (
-  cause.0,
-  λ is. missed (cause.1 is),
-)
-causes names packages path view folder input I F G M N (Some (Failed p)) failed missed cause =
-    more_path (is_standard path) ((p ≡ path) × I) (IfSome (opened_at packages path folder) (IsMember p))
-    (IfSome (opened_first (shown_at path folder) (opened_at packages path folder)) (IsMember p)) (F p) (G p)
-    (later_member p (shown_at path folder) (opened_at packages path folder)) (failed p) cause
+pub noted_ends : (k : State) (names : Vec Name Global) (packages path : List ℕ) (view : View)
+    (May Behind : World → Type 0) (Folders : Folder → Type 0) (I : Type 0) (F G : List ℕ → Type 0) (M N : Type 0)
+    (o : Option (End Ran Stop)) → HasFolders May Folders → IsPart May Behind
+    → Every Folders (λ folder. Shows (Ok names) (shown_at path folder))
+    → ((file : List ℕ) → F file → G file) → (M → N)
+    → IfSome o (λ e. HasTaskEnd (RunInput packages path view) I F M e Behind)
+    → IfSome (option_map (noted_end names.items) o) (λ e. HasTaskEnd (ShowReadable packages path) I G N e May)
+noted_ends k names packages path view May Behind Folders I F G M N None has part shows failed missed ended = tt
+noted_ends k names packages path view May Behind Folders I F G M N (Some e) has part shows failed missed ended =
+    record {
+      end = λ world may.
+          ends k names (shown_at path world.folder) (run_at packages path world) e
+          (shows world.folder (has world may)) (ended.end world (part world may));
+      cause = go e ended.cause;
+    } where
+      go : (e : End Ran Stop) → HasTaskCause (RunInput packages path view) Behind I F M e
+          → HasTaskCause (ShowReadable packages path) May I G N (noted_end names.items e)
+      go (Finished r) cause = tt
+      go (Stopped s) cause = (cause.0, λ is. missed (cause.1 is))
+      go (Failed p) cause =
+          more_path (is_standard path) ((p ≡ path) × I) _ _ (F p) (G p)
+          (λ needed world may. IsMember-right p (shown_at path world.folder).paths
+          (opened_at packages path world.folder) (needed world (part world may)))
+          (failed p) cause
+
+pub noted_ran : (told : Option Folder) (left left' : Option (List ℕ)) (k : State) (names : Vec Name Global)
+    (packages path : List ℕ) (view : View) (I : Type 0) (F G : List ℕ → Type 0) (M N : Type 0)
+    (o : Option (End Ran Stop))
+    → HasReadFiles told (λ folder. Shows (Ok names) (shown_at path folder))
+    → ((file : List ℕ) → F file → G file) → (M → N)
+    → HasReadWorld told left left' (λ May. IfSome o (λ e. HasTaskEnd (RunInput packages path view) I F M e May))
+    → HasReadWorld told left left'
+    (λ May. IfSome (option_map (noted_end names.items) o) (λ e. HasTaskEnd (ShowReadable packages path) I G N e May))
+noted_ran told left left' k names packages path view I F G M N o shows failed missed ran =
+    folder_then_world told left left' (λ Folders. Every Folders (λ folder. Shows (Ok names) (shown_at path folder)))
+    _ _
+    (λ May Folders Behind has part shown ended.
+    noted_ends k names packages path view May Behind Folders I F G M N o has part shown failed missed ended)
+    (folder_of told _ _ (λ May h. h) shows) ran
 
 -- or before it
-theory_stop : (path : List ℕ) (s : Stop) → is_theory path ≡ true → IsInputStop path s
-theory_stop path s theory = rw theory tt
-
 article_cause : (P : Stop → Type 0) (Q : List ℕ → Type 0) (M : Type 0) (p : List ℕ) (line : ℕ)
     (o : Option (Fault Name))
     → ((f : Fault Name) → P (InArticle p line f))
@@ -216,47 +203,59 @@ article_cause : (P : Stop → Type 0) (Q : List ℕ → Type 0) (M : Type 0) (p 
 article_cause P Q M p line None own = tt
 article_cause P Q M p line (Some f) own = (own f, λ is. absurd cc)
 
-read_member : (k : State) (p : String Global) (xs : Option (Linked (List Name)))
-    → IfSome xs (λ x. (k : State) → Comes k (λ (ns : Vec Name Global). ns.items) (Err (faults.ReadFault p)) x)
-    → IfSome xs (λ x. IsMember (string_bytes p) x.paths)
-read_member k p None comes = tt
-read_member k p (Some x) comes = comes k
-
-pub stop_causes : (k : State) (e : LinkFault) (packages path : List ℕ) (folder : Option Folder)
-    (input : Option (List ℕ)) (I : Type 0) (at : Option (List ℕ)) (m m' f f' : ℕ)
-    → is_theory path ≡ true
-    → IfSome (shown_at path folder) (λ x. (k : State) → Comes k (λ (ns : Vec Name Global). ns.items) (Err e) x)
+stop_cause : (k : State) (e : LinkFault) (packages path : List ℕ) (May : World → Type 0) (I : Type 0)
+    (at : Option (List ℕ)) (m m' f f' : ℕ)
+    → is_theory path ≡ true → Every May (λ world. Shows (Err e) (shown_at path world.folder))
     → HasLinkCause e m m' f f' at
     → IfSome (option_map (noted_end []) (end_at k e))
-    (HasTaskCause (ShowReadable packages path) folder input I (FileFailed at f f') (CountRose m m'))
-stop_causes k (faults.Article p line fault) packages path folder input I at m m' f f' theory comes cause =
-    article_cause (IsInputStop path) (IsFailedPath (ShowReadable packages path) folder input I (FileFailed at f f'))
+    (HasTaskCause (ShowReadable packages path) May I (FileFailed at f f') (CountRose m m'))
+stop_cause k (faults.Article p line fault) packages path May I at m m' f f' theory comes cause =
+    article_cause (IsInputStop path) (IsFailedPath (ShowReadable packages path) May I (FileFailed at f f'))
     (CountRose m m') (string_bytes p) line _ (λ g. theory_stop path (InArticle (string_bytes p) line g) theory)
-stop_causes k (faults.Theory p line fault) packages path folder input I at m m' f f' theory comes cause = (
+stop_cause k (faults.Theory p line fault) packages path May I at m m' f f' theory comes cause = (
   theory_stop path (InTheory (string_bytes p) line fault) theory,
   λ is. absurd cc,
 )
-stop_causes k (faults.Structure p line fault) packages path folder input I at m m' f f' theory comes cause = (
+stop_cause k (faults.Structure p line fault) packages path May I at m m' f f' theory comes cause = (
   theory_stop path (InStructure (string_bytes p) line fault) theory,
   λ is. absurd cc,
 )
-stop_causes k (faults.TheoryTooLarge p) packages path folder input I at m m' f f' theory comes cause = (
+stop_cause k (faults.TheoryTooLarge p) packages path May I at m m' f f' theory comes cause = (
   theory_stop path (TooLarge (string_bytes p)) theory,
   λ is. absurd cc,
 )
-stop_causes k (faults.NoFile p) packages path folder input I at m m' f f' theory comes cause = (
+stop_cause k (faults.NoFile p) packages path May I at m m' f f' theory comes cause = (
   theory_stop path (Missing (string_bytes p)) theory,
   λ is. cause,
 )
-stop_causes k (faults.ReadFault p) packages path folder input I at m m' f f' theory comes cause =
-    file_path (is_standard path) ((string_bytes p ≡ path) × I)
-    (IfSome (opened_first (shown_at path folder) (opened_at packages path folder)) (IsMember (string_bytes p))
-    × FileFailed at f f' (string_bytes p)) (no_standard path theory) (
-      first_member (string_bytes p) (shown_at path folder)
-          (opened_at packages path folder) (read_member k p (shown_at path folder) comes),
-      cause,
-    )
-stop_causes k faults.Memory packages path folder input I at m m' f f' theory comes cause = tt
+stop_cause k (faults.ReadFault p) packages path May I at m m' f f' theory comes cause =
+    file_path path _ I (FileFailed at f f') (string_bytes p) (no_standard path theory)
+    (λ world may. IsMember-left (string_bytes p) (shown_at path world.folder).paths
+    (opened_at packages path world.folder) (comes world may k))
+    cause
+stop_cause k faults.Memory packages path May I at m m' f f' theory comes cause = tt
+
+pub shown_stops : (k : State) (e : LinkFault) (packages path : List ℕ) (May : World → Type 0) (I : Type 0)
+    (at : Option (List ℕ)) (m m' f f' : ℕ)
+    → is_theory path ≡ true → Every May (λ world. Shows (Err e) (shown_at path world.folder))
+    → HasLinkCause e m m' f f' at
+    → IfSome (option_map (noted_end []) (end_at k e))
+    (λ end. HasTaskEnd (ShowReadable packages path) I (FileFailed at f f') (CountRose m m') end May)
+shown_stops k e packages path May I at m m' f f' theory comes cause =
+    task_ended (ShowReadable packages path) I (FileFailed at f f') (CountRose m m') May
+    (option_map (noted_end []) (end_at k e))
+    (λ world may. stops k e (shown_at path world.folder) (run_at packages path world).answer (comes world may))
+    (stop_cause k e packages path May I at m m' f f' theory comes cause)
+
+pub shown_stops_ran : (told : Option Folder) (left : Option (List ℕ)) (k : State) (e : LinkFault)
+    (packages path : List ℕ) (I : Type 0) (at : Option (List ℕ)) (m m' f f' : ℕ)
+    → is_theory path ≡ true → HasReadFiles told (λ folder. Shows (Err e) (shown_at path folder))
+    → HasLinkCause e m m' f f' at
+    → HasReadWorld told left left (λ May. IfSome (option_map (noted_end []) (end_at k e))
+    (λ end. HasTaskEnd (ShowReadable packages path) I (FileFailed at f f') (CountRose m m') end May))
+shown_stops_ran told left k e packages path I at m m' f f' theory shows cause =
+    world_of_files told left _ _
+    (λ May comes. shown_stops k e packages path May I at m m' f f' theory comes cause) shows
 
 -- ---- its verdict
 

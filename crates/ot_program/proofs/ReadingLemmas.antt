@@ -9,8 +9,10 @@ use Rattle.std.specs.Option.{option_map, option_and_then}
 use Rattle.ot_logic.specs.Names.{Name}
 use Rattle.ot_logic.specs.Trees.{Tm, Sequent, Symbol}
 use Rattle.ot_io.specs.Folder.{Folder, GivesFile, path_asked, bytes_at}
-use Rattle.ot_io.specs.Reading.{HasRead, OfTold}
-use Rattle.ot_io.proofs.Reading.{HasRead-told}
+use Rattle.ot_io.specs.Reading.{HasRead}
+use Rattle.ot_io.specs.Readings.{HasReadFiles}
+use Rattle.ot_io.proofs.Reading.{HasRead-map}
+use Rattle.ot_io.proofs.Readings.{Files-map, Files-one, Files-missing}
 use Rattle.ot_args.specs.Grammar.{is_theory}
 use Rattle.ot_kernel.specs.State.{State}
 use Rattle.ot_machine.specs.Meaning.{IsRun}
@@ -28,80 +30,85 @@ use Rattle.ot_forms.specs.Refusals.{ReadsAsTerm}
 use Rattle.ot_read.specs.Lines.{lines_read, term_read}
 use Rattle.ot_read.specs.Laws.{TermsReadByForms, LinesReadByForms, TextsReadByForms, AreRead, StandFor}
 use Rattle.ot_read.proofs.Alike.{term-alike, lines-alike}
-use Rattle.ot_program.specs.Reply.{ShowReadable, ReadLines, Noted, Readings, ReadStop, InInput}
-use Rattle.ot_program.specs.Reply.{TextTooLarge, noted_at, notation, is_standard, text_limit, text_in, read_in}
+use Rattle.ot_program.specs.World.{World, Every, HasReadWorld}
+use Rattle.ot_program.specs.Reply.{ShowReadable, ReadLines, Noted, Readings, ReadStop, NoText, TextTooLarge}
+use Rattle.ot_program.specs.Reply.{noted_at, notation, is_standard, text_limit, text_in, read_in, read_at}
 use Rattle.ot_program.specs.Reply.{read_behind}
-use Rattle.ot_program.specs.Answer.{LastInput, LastOf}
-use Rattle.ot_program.specs.Verdicts.{End, Finished, Stopped, Failed, IsAnswer, IsTextCause, HasTaskCause}
+use Rattle.ot_program.specs.Answer.{IsResult, LastInput, LastOf}
+use Rattle.ot_program.specs.Verdicts.{End, Finished, Stopped, Failed, IsAnswer, IsTextCause, IsTextRefusal}
+use Rattle.ot_program.specs.Verdicts.{HasTaskCause, HasTaskEnd}
 use Rattle.ot_program.specs.Verdicts.{noted_from, noted_end, stop_end, read_end_of, IsStopVerdict, IsVerdictOf}
 use Rattle.ot_program.specs.declared.report.Verdict.{Verdict}
 use Rattle.ot_program.specs.declared.reading.LinesRead.{LinesRead}
 use Rattle.ot_program.specs.declared.reading.ReadingRefusal.{ReadingRefusal}
 use Rattle.ot_program.specs.declared.reading.ReadingRefusal.TheVariants as readings
 use Rattle.ot_program.proofs.NotedLemmas.{notation_is}
-use Rattle.ot_program.proofs.Options.{unknown, ends_with}
+use Rattle.ot_program.proofs.Options.{no_stop}
+use Rattle.ot_program.proofs.TaskEnds.{task_ended}
+use Rattle.ot_program.proofs.Worlds.{IsPart, HasFolders, folder_of, world_then_folder}
 
 -- ---- the end
 
 -- behind a run that ended
-pub behind : (text : List ℕ) (folder : Option Folder)
-    (known : Option (Result Noted Stop)) (n : Noted) (o : Option (End Readings ReadStop))
-    → IfSome known (λ answer. answer ≡ Ok n) → IfSome folder (λ files. IfSome o (IsAnswer (read_in n text files)))
-    → IfSome o (λ e. IfSome (option_and_then (read_behind text folder) known) (λ answer. IsAnswer answer e))
-behind text folder None n o ran read = unknown o
-behind text None (Some answer) n o ran read = rw ran (unknown o)
-behind text (Some files) (Some answer) n o ran read = rw ran read
+behind : (packages path text : List ℕ) (world : World) (n : Noted) (o : Option (End Readings ReadStop))
+    → noted_at packages path world ≡ Ok n → IfSome o (IsAnswer (read_in n text world.folder))
+    → IfSome o (IsAnswer (read_at packages path text world))
+behind packages path text world n o ran read =
+    subst (λ (a : Result Noted Stop). IfSome o (IsAnswer (read_behind text world.folder a))) (sym ran) read
+
+text_cause : (packages path text : List ℕ) (May : World → Type 0) (n : Noted) (I : Type 0) (F : List ℕ → Type 0)
+    (A M N : Type 0) (r : Result LinesRead ReadingRefusal)
+    → IsResult (ShowReadable packages path) May (Ok n) → (A → F text) → (M → N) → IfErr r (λ e. IsTextCause e A M)
+    → IfSome (read_end_of text n r) (HasTaskCause (ReadLines packages path text) May I F N)
+text_cause packages path text May n I F A M N (Ok read) ran failed missed cause = tt
+text_cause packages path text May n I F A M N (Err (readings.At line column fault)) ran failed missed cause =
+    (tt, λ is. absurd cc)
+text_cause packages path text May n I F A M N (Err readings.TooLarge) ran failed missed cause = (tt, λ is. absurd cc)
+text_cause packages path text May n I F A M N (Err readings.NoFile) ran failed missed cause =
+    (tt, λ is. missed cause)
+text_cause packages path text May n I F A M N (Err readings.ReadFault) ran failed missed cause =
+    inr (refl, λ world may. no_stop n (noted_at packages path world) (ran world may), failed cause)
+text_cause packages path text May n I F A M N (Err readings.Memory) ran failed missed cause = tt
+
+pub read_ran : (told : Option Folder) (left left' : Option (List ℕ)) (packages path text : List ℕ) (n : Noted)
+    (I : Type 0) (F : List ℕ → Type 0) (A M N : Type 0) (r : Result LinesRead ReadingRefusal)
+    → HasReadWorld told left left' (λ May. IsResult (ShowReadable packages path) May (Ok n))
+    → HasReadFiles told (λ folder. IfSome (read_end_of text n r) (IsAnswer (read_in n text folder)))
+    → (A → F text) → (M → N) → IfErr r (λ e. IsTextCause e A M)
+    → HasReadWorld told left left'
+    (λ May. IfSome (read_end_of text n r) (λ e. HasTaskEnd (ReadLines packages path text) I F N e May))
+read_ran told left left' packages path text n I F A M N r ran read failed missed cause =
+    world_then_folder told left left' _
+    (λ Folders. Every Folders (λ folder. IfSome (read_end_of text n r) (IsAnswer (read_in n text folder)))) _
+    (λ May Before Folders part has before reads.
+    task_ended (ReadLines packages path text) I F N May (read_end_of text n r)
+    (λ world may. behind packages path text world n (read_end_of text n r) (before world (part world may))
+    (reads world.folder (has world may)))
+    (text_cause packages path text May n I F A M N r (λ world may. before world (part world may)) failed missed
+    cause))
+    ran (folder_of told _ _ (λ May h. h) read)
 
 -- and behind one that stopped, or failed
-input_stop : (text : List ℕ) (folder : Option Folder) (known : Option (Result Noted Stop)) (s : Stop)
-    → IfSome known (λ answer. answer ≡ Err s)
-    → IfSome (option_and_then (read_behind text folder) known) (λ answer. answer ≡ Err (InInput s))
-input_stop text folder None s is = tt
-input_stop text folder (Some answer) s is = rw is refl
-
-pub stop_behind : (text : List ℕ) (folder : Option Folder) (known : Option (Result Noted Stop))
-    (o : Option (End Ran Stop))
-    → IfSome (option_map (noted_end []) o) (λ e. IfSome known (λ answer. IsAnswer answer e))
-    → IfSome (option_and_then stop_end o) (λ e. IfSome
-    (option_and_then (read_behind text folder) known) (λ answer. IsAnswer answer e))
-stop_behind text folder known None ended = tt
-stop_behind text folder known (Some (Finished r)) ended = tt
-stop_behind text folder known (Some (Stopped s)) ended = input_stop text folder known s ended
-stop_behind text folder known (Some (Failed path)) ended = unknown (option_and_then (read_behind text folder) known)
-
--- ---- its cause
-
-pub text_cause : (packages path text : List ℕ) (folder : Option Folder) (input : Option (List ℕ)) (n : Noted)
-    (I : Type 0) (F : List ℕ → Type 0) (A M N : Type 0) (r : Result LinesRead ReadingRefusal)
-    → IfSome (noted_at packages path folder input) (λ answer. answer ≡ Ok n) → (A → F text) → (M → N)
-    → IfErr r (λ e. IsTextCause e A M)
-    → IfSome (read_end_of text n r) (HasTaskCause (ReadLines packages path text) folder input I F N)
-text_cause packages path text folder input n I F A M N (Ok read) ran failed missed cause = tt
-text_cause packages path text folder input n I F A M N (Err (readings.At line column fault)) ran failed missed cause =
-    (tt, λ is. absurd cc)
-text_cause packages path text folder input n I F A M N (Err readings.TooLarge) ran failed missed cause =
-    (tt, λ is. absurd cc)
-text_cause packages path text folder input n I F A M N (Err readings.NoFile) ran failed missed cause =
-    (tt, λ is. missed cause)
-text_cause packages path text folder input n I F A M N (Err readings.ReadFault) ran failed missed cause =
-    inr (refl, ends_with n (noted_at packages path folder input) ran, failed cause)
-text_cause packages path text folder input n I F A M N (Err readings.Memory) ran failed missed cause = tt
-
-pub input_cause : (packages path text : List ℕ) (folder : Option Folder) (input : Option (List ℕ)) (I : Type 0)
-    (F : List ℕ → Type 0) (M : Type 0) (o : Option (End Ran Stop))
-    → IfSome (option_map (noted_end []) o) (HasTaskCause (ShowReadable packages path) folder input I F M)
-    → IfSome (option_and_then stop_end o) (HasTaskCause (ReadLines packages path text) folder input I F M)
-input_cause packages path text folder input I F M None cause = tt
-input_cause packages path text folder input I F M (Some (Finished r)) cause = tt
-input_cause packages path text folder input I F M (Some (Stopped s)) cause = cause
-input_cause packages path text folder input I F M (Some (Failed p)) cause = inl cause
+pub stop_behind : (packages path text : List ℕ) (May : World → Type 0) (I : Type 0) (F : List ℕ → Type 0)
+    (M : Type 0) (o : Option (End Ran Stop))
+    → IfSome (option_map (noted_end []) o) (λ e. HasTaskEnd (ShowReadable packages path) I F M e May)
+    → IfSome (option_and_then stop_end o) (λ e. HasTaskEnd (ReadLines packages path text) I F M e May)
+stop_behind packages path text May I F M None ended = tt
+stop_behind packages path text May I F M (Some (Finished r)) ended = tt
+stop_behind packages path text May I F M (Some (Stopped s)) ended = record {
+  end = λ world may. ap (read_behind text world.folder) (ended.end world may);
+  cause = ended.cause;
+}
+stop_behind packages path text May I F M (Some (Failed path')) ended = record {
+  end = λ world may. tt;
+  cause = inl ended.cause;
+}
 
 -- ---- the path that was asked for last
 
-pub text_last : {X : Type 0} (path text : List ℕ) (folder : Option Folder) (at : Option (List ℕ)) (o : Option X)
-    → at ≡ path_asked folder text → IfSome o (λ _. LastOf path text folder at)
-text_last path text folder at None last = tt
-text_last path text folder at (Some x) last = go (is_standard path || is_theory path) where
+pub text_last : (path text : List ℕ) (folder : Option Folder) (at : Option (List ℕ))
+    → at ≡ path_asked folder text → LastOf path text folder at
+text_last path text folder at last = go (is_standard path || is_theory path) where
   go : (b : Bool) → MatchBool b (Unit {0}) ((at ≡ path_asked folder path) ⊎ (at ≡ path_asked folder text))
   go true = tt
   go false = inr last
@@ -114,13 +121,12 @@ input_last_of path text folder at last = go (is_standard path || is_theory path)
   go true h = tt
   go false h = inl h
 
-pub input_last : (path text : List ℕ) (folder : Option Folder) (at : Option (List ℕ)) (o : Option (End Ran Stop))
-    → IfSome (option_map (noted_end []) o) (λ _. LastInput path folder at)
-    → IfSome (option_and_then stop_end o) (λ _. LastOf path text folder at)
-input_last path text folder at None last = tt
-input_last path text folder at (Some (Finished r)) last = tt
-input_last path text folder at (Some (Stopped s)) last = input_last_of path text folder at last
-input_last path text folder at (Some (Failed p)) last = input_last_of path text folder at last
+pub stop_last : {E : Type 0} (path text : List ℕ) (folder : Option Folder) (at : Option (List ℕ))
+    (a : Result Verdict E) (o : Option (End Ran Stop)) → IfOk a (λ v. IsSomeAnd o (IsStopVerdict v))
+    → IfSome (option_map (noted_end []) o) (λ _. LastInput path folder at) → IfOk a (λ v. LastOf path text folder at)
+stop_last path text folder at (Err e) o said last = tt
+stop_last path text folder at (Ok v) None said last = absurd said
+stop_last path text folder at (Ok v) (Some e) said last = input_last_of path text folder at last
 
 -- ---- its verdict
 
@@ -195,17 +201,6 @@ take_within zero xs = omega arith
 take_within (suc n) [] = omega arith
 take_within (suc n) (x ∷ xs) = let h = take_within n xs in omega (arith, h)
 
--- what holds of the bytes that were read, and any behind them, holds of those of a source that told them
-told_front : (left left' : Option (List ℕ)) (P : List ℕ → Type 0) (Q : List ℕ → List ℕ → Type 0)
-    → OfTold left left' (λ all rest. P all × Q all rest) → IfSome left P
-told_front None left' P Q h = tt
-told_front (Some all) None P Q h = absurd h
-told_front (Some all) (Some rest) P Q h = h.0
-
-pub front_told : (left left' : Option (List ℕ)) (E : Type 0) (P : List ℕ → Type 0) (Q : List ℕ → List ℕ → Type 0)
-    → HasRead left left' E (λ all rest. P all × Q all rest) → IfSome left P
-front_told left left' E P Q h = told_front left left' P Q (HasRead-told left left' E (λ all rest. P all × Q all rest) h)
-
 module _ (text : List ℕ) where
   fits_in : (files : Folder) (bytes all : List ℕ) → bytes_at files text ≡ Some all → bytes ≡ take (text_limit + 1) all
       → length bytes ≤ text_limit → text_in text files ≡ Ok bytes
@@ -229,18 +224,40 @@ module _ (text : List ℕ) where
       rw (has, past) refl
 
   -- of a file that was opened
-  pub text_fits : (folder : Option Folder) (left : Option (List ℕ)) (bytes : List ℕ)
-      → IfSome folder (λ files. GivesFile files text left) → IfSome left (λ all. bytes ≡ take (text_limit + 1) all)
-      → length bytes ≤ text_limit → IfSome folder (λ files. text_in text files ≡ Ok bytes)
-  text_fits None left bytes gives is short = tt
-  text_fits (Some files) left bytes gives is short =
-      fits_in files bytes gives.0 gives.1
-      (subst (λ (l : Option (List ℕ)). IfSome l (λ all. bytes ≡ take (text_limit + 1) all)) gives.2 is) short
+  pub text_fits : {E : Type 0} (told : Option Folder) (left left' : Option (List ℕ)) (bytes : List ℕ)
+      (Rest : List ℕ → List ℕ → Type 0)
+      → IfSome told (λ folder. GivesFile folder text left)
+      → HasRead left left' E (λ all rest. (bytes ≡ take (text_limit + 1) all) × Rest all rest)
+      → length bytes ≤ text_limit
+      → HasReadFiles told (λ folder. (text_in text folder ≡ Ok bytes) × Unit {0})
+  text_fits {E} told left left' bytes Rest gives read short =
+      Files-map told _ _ (λ folder h. (fits_in folder bytes h.0 h.1 h.2 short, tt))
+      (Files-one told text left left' E (λ all. bytes ≡ take (text_limit + 1) all) gives
+      (HasRead-map read (λ e. e) (λ all rest h. h.0)))
 
-  pub text_too_long : (folder : Option Folder) (left : Option (List ℕ)) (bytes : List ℕ)
-      → IfSome folder (λ files. GivesFile files text left) → IfSome left (λ all. bytes ≡ take (text_limit + 1) all)
-      → text_limit < length bytes → IfSome folder (λ files. text_in text files ≡ Err TextTooLarge)
-  text_too_long None left bytes gives is long = tt
-  text_too_long (Some files) left bytes gives is long =
-      too_large_in files bytes gives.0 gives.1
-      (subst (λ (l : Option (List ℕ)). IfSome l (λ all. bytes ≡ take (text_limit + 1) all)) gives.2 is) long
+  pub text_too_long : {E : Type 0} (told : Option Folder) (left left' : Option (List ℕ)) (bytes : List ℕ)
+      (Rest : List ℕ → List ℕ → Type 0)
+      → IfSome told (λ folder. GivesFile folder text left)
+      → HasRead left left' E (λ all rest. (bytes ≡ take (text_limit + 1) all) × Rest all rest)
+      → text_limit < length bytes
+      → HasReadFiles told (λ folder. Unit {0} × (text_in text folder ≡ Err TextTooLarge))
+  text_too_long {E} told left left' bytes Rest gives read long =
+      Files-map told _ _ (λ folder h. (tt, too_large_in folder bytes h.0 h.1 h.2 long))
+      (Files-one told text left left' E (λ all. bytes ≡ take (text_limit + 1) all) gives
+      (HasRead-map read (λ e. e) (λ all rest h. h.0)))
+
+  -- of one that is missing
+  pub text_missing : (told : Option Folder) → IfSome told (λ folder. bytes_at folder text ≡ None)
+      → HasReadFiles told (λ folder. Unit {0} × (text_in text folder ≡ Err NoText))
+  text_missing told none =
+      Files-map told _ _ (λ folder is. (tt, rw is refl)) (Files-missing told text none)
+
+  -- bytes that aren't read end the reading of the text
+  pub text_refused : (told : Option Folder) (n : Noted) (e : ReadingRefusal)
+      → HasReadFiles told (λ folder. Unit {0} × IsTextRefusal (text_in text folder) e)
+      → HasReadFiles told (λ folder. IfSome (read_end_of text n (Err e)) (IsAnswer (read_in n text folder)))
+  text_refused told n (readings.At line column fault) h = Files-map told _ _ (λ folder none. absurd none.1) h
+  text_refused told n readings.TooLarge h = Files-map told _ _ (λ folder is. rw is.1 refl) h
+  text_refused told n readings.NoFile h = Files-map told _ _ (λ folder is. rw is.1 refl) h
+  text_refused told n readings.ReadFault h = Files-map told _ _ (λ folder any. tt) h
+  text_refused told n readings.Memory h = Files-map told _ _ (λ folder any. tt) h

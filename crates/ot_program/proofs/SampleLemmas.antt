@@ -3,18 +3,19 @@ use Rattle.std.proofs.Common.{◌≡◌, ◌≤◌, ℕ, List, subst, arith}
 use Rattle.std.specs.Global.{Global}
 use Rattle.std.specs.Prelude.{true, Vec, Option, Some, None, Result, Ok, Err, IfOk, IfSome, OnOk}
 use Rattle.ot_io.specs.Causes.{CountRose}
-use Rattle.ot_io.specs.Folder.{Folder}
 use Rattle.ot_link.specs.Stops.{Stop}
 use Rattle.ot_link.specs.Blocks.{Ran, article_end}
 use Rattle.ot_sample.specs.Sample.{sample}
 use Rattle.ot_print.specs.Laws.{TextsNameOne}
+use Rattle.ot_program.specs.World.{World}
 use Rattle.ot_program.specs.Reply.{RunSample, sample_path, outcome, run_lists}
 use Rattle.ot_program.specs.Reply.{article_fits, article_text, sample_line}
 use Rattle.ot_program.specs.Answer.{IsProved, IsRewritten}
-use Rattle.ot_program.specs.Verdicts.{End, Finished, Stopped, Failed, IsAnswer, IsEnd, HasTaskCause}
+use Rattle.ot_program.specs.Verdicts.{End, Finished, Stopped, Failed, IsAnswer, HasTaskCause, HasTaskEnd}
 use Rattle.ot_program.specs.Verdicts.{HasOwnCause, EndsAs, IsVerdictOf}
 use Rattle.ot_program.specs.declared.report.Verdict.{Verdict}
 use Rattle.ot_program.specs.declared.status.Status.TheVariants.{Accepted}
+use Rattle.ot_program.proofs.TaskEnds.{task_ended}
 
 -- a sample whose run ended
 pub sample_ended : {E : Type 0} (n : ℕ) (r : Ran) (a : Result Verdict E) → IfOk a (EndsAs (RunSample n) r)
@@ -41,12 +42,6 @@ pub sample_within : (n : ℕ) (r : Ran) (v : Verdict) → article_fits r ≡ tru
     → EndsAs (RunSample n) r v
 sample_within n r v fit status text = rw fit (record { status_is = status; text_is = text })
 
--- the run of its article ends as its bytes say
-pub sample_end : (n : ℕ) (folder : Option Folder) (input : Option (List ℕ)) (o : Option (End Ran Stop))
-    → IfSome o (IsAnswer (article_end sample_path (outcome (sample n)))) → IfSome o (IsEnd (RunSample n) folder input)
-sample_end n folder input None ends = tt
-sample_end n folder input (Some e) ends = ends
-
 -- it doesn't fail, since its source doesn't
 no_rise : ¬ CountRose 0 0
 no_rise h = let e : 1 ≤ 0 = h in absurd (omega arith)
@@ -54,14 +49,18 @@ no_rise h = let e : 1 ≤ 0 = h in absurd (omega arith)
 never : {X : Type 0} → CountRose 0 0 → X
 never h = absurd (no_rise h)
 
-pub sample_cause : (n : ℕ) (folder : Option Folder) (input : Option (List ℕ)) (o : Option (End Ran Stop))
+sample_cause : (n : ℕ) (May : World → Type 0) (o : Option (End Ran Stop))
     → IfSome o (HasOwnCause sample_path (CountRose 0 0) ⊥)
-    → IfSome o (HasTaskCause (RunSample n) folder input ⊥ (λ file. ⊥) ⊥)
-sample_cause n folder input None cause = tt
-sample_cause n folder input (Some (Finished r)) cause = tt
-sample_cause n folder input (Some (Stopped s)) cause = cause
-sample_cause n folder input (Some (Failed path)) cause = never cause.1
+    → IfSome o (HasTaskCause (RunSample n) May ⊥ (λ file. ⊥) ⊥)
+sample_cause n May None cause = tt
+sample_cause n May (Some (Finished r)) cause = tt
+sample_cause n May (Some (Stopped s)) cause = cause
+sample_cause n May (Some (Failed path)) cause = never cause.1
 
-pub unasked : (o : Option (End Ran Stop)) → IfSome o (λ _. Unit {0})
-unasked None = tt
-unasked (Some e) = tt
+-- the run of its article ends as its bytes say
+pub sample_end : (n : ℕ) (May : World → Type 0) (o : Option (End Ran Stop))
+    → IfSome o (IsAnswer (article_end sample_path (outcome (sample n))))
+    → IfSome o (HasOwnCause sample_path (CountRose 0 0) ⊥)
+    → IfSome o (λ e. HasTaskEnd (RunSample n) ⊥ (λ file. ⊥) ⊥ e May)
+sample_end n May o ends cause =
+    task_ended (RunSample n) ⊥ (λ file. ⊥) ⊥ May o (λ world may. ends) (sample_cause n May o cause)

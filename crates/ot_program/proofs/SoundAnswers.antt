@@ -1,8 +1,7 @@
 -- What a stated task ends with is proved.
-use Rattle.std.specs.Prelude.{Bool, true, false, Option, Some, None, IfSome, Result, Ok, Err, IfOk, ◌∷◌}
+use Rattle.std.specs.Prelude.{Bool, true, false, Result, Ok, Err, IfOk, ◌∷◌}
 use Rattle.std.specs.Prelude.{if◌then◌else◌}
 use Rattle.std.specs.List.{All}
-use Rattle.std.specs.Option.{option_map, option_and_then}
 use Rattle.std.proofs.Common.{◌≡◌, ℕ, List, [], refl}
 use Rattle.std.proofs.lemmas.List.Elements.{All-nil, All-cons, All-map}
 use Rattle.ot_logic.specs.Names.{Name}
@@ -14,7 +13,7 @@ use Rattle.ot_laws.proofs.Grown.{accepted-nil}
 use Rattle.ot_io.specs.Folder.{Folder, bytes_at}
 use Rattle.ot_args.specs.Grammar.{is_theory}
 use Rattle.ot_blocks.specs.Paths.{package_path}
-use Rattle.ot_repo.specs.Required.{Refusal, required}
+use Rattle.ot_repo.specs.Required.{Refusal}
 use Rattle.ot_scan.specs.Lines.{lines_of}
 use Rattle.ot_theory.specs.Lines.{LineText, lines_of as text_lines}
 use Rattle.ot_link.specs.Stops.{Stop, Missing, Linked}
@@ -27,26 +26,22 @@ use Rattle.ot_verify.specs.Reading.{log_check, tokens_of}
 use Rattle.ot_verify.specs.Verifying.{proved_by}
 use Rattle.ot_read.specs.Lines.{RefusedLine, at_line, term_read, lines_read}
 use Rattle.ot_sample.specs.Sample.{sample}
+use Rattle.ot_program.specs.World.{World}
 use Rattle.ot_program.specs.Reply.{TaskValue, RunInput, RunSample, MakeSample, CheckLog, ShowReadable, ReadLines}
 use Rattle.ot_program.specs.Reply.{FindPattern, result_of, lists_of, run_lists, run_at, standard_run, article_run}
 use Rattle.ot_program.specs.Reply.{theory_run, outcome, is_standard, article_limit, limits, sample_path}
-use Rattle.ot_program.specs.Reply.{Noted, shown_at, theory_shown, noted, noted_known, noted_at, notation}
+use Rattle.ot_program.specs.Reply.{Noted, shown_at, noted, noted_at, notation}
 use Rattle.ot_program.specs.Reply.{Readings, ReadStop, text_in, readings, read_under, read_in, read_behind, read_at}
 use Rattle.ot_program.specs.Reply.{PackageRun, Searched, FindStop, InRequired, InRun, InPattern, stops_as, log_lists}
-use Rattle.ot_program.specs.Reply.{package_runs, search, search_theory, find_at}
+use Rattle.ot_program.specs.Reply.{package_runs, required_at, search, find_at}
 use Rattle.ot_program.specs.Reply.{log_end, check_bytes, check_file, check_at, NoLog}
 use Rattle.ot_program.specs.Answer.{IsProved}
 use Rattle.ot_program.specs.Laws.{AnswersAreSound}
 use Rattle.ot_uses.proofs.Goodness.{if_bind, any_bind}
 use Rattle.ot_program.proofs.FindingLemmas.{ok_more}
 use Rattle.ot_program.proofs.LogLemmas.{log_proved}
-use Rattle.ot_program.proofs.Options.{if_some, mapped}
 
 -- ---- where an answer is made of others
-
-known : {A B : Type 0} (o : Option A) (f : A → B) (P : B → Type 0) → ((x : A) → P (f x)) → IfSome (option_map f o) P
-known None f P all = tt
-known (Some x) f P all = all x
 
 as_stop : {A E F : Type 0} (f : E → F) (r : Result A E) (P : A → Type 0) → IfOk r P → IfOk (stops_as f r) P
 as_stop f (Ok x) P p = p
@@ -85,20 +80,18 @@ module _ (ends : EndsAreLawful) (sound : LawfulIsSound IsAnyName) where
   abbrev IsProvedLink : Linked Ran → Type 0
   IsProvedLink l = IfOk l.answer IsProvedRun
 
-  run_proved : (packages path : List ℕ) (folder : Option Folder) (input : Option (List ℕ))
-      → IfSome (run_at packages path folder input) IsProvedLink
-  run_proved packages path folder input = by (is_standard path) (is_theory path)
+  run_proved : (packages path : List ℕ) (world : World) → IsProvedLink (run_at packages path world)
+  run_proved packages path world = by (is_standard path) (is_theory path)
     where
       by : (b c : Bool)
-          → IfSome (if b then option_map (standard_run path) input
-          else if c then option_map (theory_run packages path) folder
-          else option_map (article_run path) folder) IsProvedLink
-      by true c = known input (standard_run path) IsProvedLink (bytes_proved path)
-      by false true = known folder (theory_run packages path) IsProvedLink (theory_proved packages path)
+          → IsProvedLink (if b then standard_run path world.input
+          else if c then theory_run packages path world.folder
+          else article_run path world.folder)
+      by true c = bytes_proved path world.input
+      by false true = theory_proved packages path world.folder
       by false false =
-          known folder (article_run path) IsProvedLink
-          (λ files. any_bind (some_or (Missing path) (bytes_at files path))
-          (λ bytes. article_end path (outcome bytes)) IsProvedRun (bytes_proved path))
+          any_bind (some_or (Missing path) (bytes_at world.folder path))
+          (λ bytes. article_end path (outcome bytes)) IsProvedRun (bytes_proved path)
 
   -- ---- runs with their notation
 
@@ -113,16 +106,10 @@ module _ (ends : EndsAreLawful) (sound : LawfulIsSound IsAnyName) where
       any_bind ns (λ shown. r >>= λ ran. Ok (record { shown = shown; ran = ran })) IsProvedNoted
       (λ shown. if_bind r (λ ran. Ok (record { shown = shown; ran = ran })) IsProvedRun IsProvedNoted h (λ ran p. p))
 
-  known_proved : (ns : Option (Linked (List Name))) (r : Option (Linked Ran)) → IfSome r IsProvedLink
-      → IfSome (noted_known ns r) EndsNoted
-  known_proved None r h = tt
-  known_proved (Some ns) None h = tt
-  known_proved (Some ns) (Some r) h = both_proved ns.answer r.answer h
-
-  noted_proved : (packages path : List ℕ) (folder : Option Folder) (input : Option (List ℕ))
-      → IfSome (noted_at packages path folder input) EndsNoted
-  noted_proved packages path folder input =
-      known_proved (shown_at path folder) (run_at packages path folder input) (run_proved packages path folder input)
+  noted_proved : (packages path : List ℕ) (world : World) → EndsNoted (noted_at packages path world)
+  noted_proved packages path world =
+      both_proved (shown_at path world.folder).answer (run_at packages path world).answer
+      (run_proved packages path world)
 
   -- ---- lines that are read
 
@@ -136,19 +123,14 @@ module _ (ends : EndsAreLawful) (sound : LawfulIsSound IsAnyName) where
       by (Ok qs) = h
       by (Err refused) = tt
 
-  read_proved : (packages path text : List ℕ) (folder : Option Folder) (input : Option (List ℕ))
-      → IfSome (read_at packages path text folder input) EndsRead
-  read_proved packages path text folder input =
-      by (noted_at packages path folder input) (noted_proved packages path folder input)
+  read_proved : (packages path text : List ℕ) (world : World) → EndsRead (read_at packages path text world)
+  read_proved packages path text world = by (noted_at packages path world) (noted_proved packages path world)
     where
-      by : (o : Option (Result Noted Stop)) → IfSome o EndsNoted
-          → IfSome (option_and_then (read_behind text folder) o) EndsRead
-      by None h = tt
-      by (Some (Err stop)) h = tt
-      by (Some (Ok n)) h =
-          known folder (read_in n text) EndsRead
-          (λ files. any_bind (text_in text files) (λ bytes. read_under n (text_lines bytes))
-          (λ read. IsProvedNoted read.noted) (λ bytes. read_under_proved n h (text_lines bytes)))
+      by : (r : Result Noted Stop) → EndsNoted r → EndsRead (read_behind text world.folder r)
+      by (Err stop) h = tt
+      by (Ok n) h =
+          any_bind (text_in text world.folder) (λ bytes. read_under n (text_lines bytes))
+          (λ read. IsProvedNoted read.noted) (λ bytes. read_under_proved n h (text_lines bytes))
 
   -- ---- a search
 
@@ -188,27 +170,10 @@ module _ (ends : EndsAreLawful) (sound : LawfulIsSound IsAnyName) where
       (All (λ p. IsProvedRun p.ran)) IsProvedSearch (as_stop InRun (runs fs) (All (λ p. IsProvedRun p.ran)) (all fs))
       (λ ps l. record { input = k; packages = l }))))
 
-  find_proved : (packages pattern path : List ℕ) (folder : Option Folder) (input : Option (List ℕ))
-      → IfSome (find_at packages pattern path folder input) EndsFound
-  find_proved packages pattern path folder input = by (is_theory path)
-    where
-      over : (o : Option (Result Noted Stop)) → IfSome o EndsNoted
-          → IfSome (option_map (λ ran. search pattern (Ok []) ran (λ fulls. Ok [])) o) EndsFound
-      over None h = tt
-      over (Some ran) h = search_proved pattern (Ok []) ran (λ fulls. Ok []) h (λ fs. All-nil (λ p. IsProvedRun p.ran))
-
-      by : (b : Bool)
-          → IfSome (if b then option_map (search_theory packages pattern path) folder
-          else option_map (λ ran. search pattern (Ok []) ran (λ fulls. Ok [])) (noted_at packages path folder input))
-          EndsFound
-      by true =
-          known folder (search_theory packages pattern path) EndsFound
-          (λ files. search_proved pattern (required files limits.theory_bytes packages path)
-          (noted (theory_shown path files).answer (theory_run packages path files).answer) (package_runs packages files)
-          (both_proved (theory_shown path files).answer (theory_run packages path files).answer
-          (theory_proved packages path files)) (packages_proved packages files))
-      by false =
-          over (noted_at packages path folder input) (noted_proved packages path folder input)
+  find_proved : (packages pattern path : List ℕ) (world : World) → EndsFound (find_at packages pattern path world)
+  find_proved packages pattern path world =
+      search_proved pattern (required_at packages path world.folder) (noted_at packages path world)
+      (package_runs packages world.folder) (noted_proved packages path world) (packages_proved packages world.folder)
 
   -- ---- the law
 
@@ -224,44 +189,36 @@ module _ (ends : EndsAreLawful) (sound : LawfulIsSound IsAnyName) where
             (record { accepted = h.accepted; assumptions = h.assumptions; results = h.results })
         by (Stops line fault) e = tt
 
-    log_result : (path : List ℕ) (folder : Option Folder) (input : Option (List ℕ))
-        → IfSome (check_at path folder input) (λ end. IfOk end (λ p. IsProved (log_lists p)))
-    log_result path folder input = by (is_standard path)
+    log_result : (path : List ℕ) (world : World) → IfOk (check_at path world) (λ p. IsProved (log_lists p))
+    log_result path world = by (is_standard path)
       where
         by : (b : Bool)
-            → IfSome (if b then option_map check_bytes input else option_map (check_file path) folder)
-            (λ end. IfOk end (λ p. IsProved (log_lists p)))
-        by true = known input check_bytes (λ end. IfOk end (λ p. IsProved (log_lists p))) log_bytes_proved
+            → IfOk (if b then check_bytes world.input else check_file path world.folder)
+            (λ p. IsProved (log_lists p))
+        by true = log_bytes_proved world.input
         by false =
-            known folder (check_file path) (λ end. IfOk end (λ p. IsProved (log_lists p)))
-            (λ files. any_bind (some_or NoLog (bytes_at files path)) check_bytes (λ p. IsProved (log_lists p))
-            log_bytes_proved)
+            any_bind (some_or NoLog (bytes_at world.folder path)) check_bytes (λ p. IsProved (log_lists p))
+            log_bytes_proved
 
-    result_proved : (t : TaskValue) (folder : Option Folder) (input : Option (List ℕ))
-        → IfSome (result_of t folder input) (λ end. IfOk end (λ made. IsProved (lists_of t made)))
-    result_proved (RunInput packages path view) folder input =
-        mapped (λ l. l.answer) (λ end. IfOk end IsProvedRun) (run_at packages path folder input)
-        (run_proved packages path folder input)
-    result_proved (RunSample n) folder input = bytes_proved sample_path (sample n)
-    result_proved (MakeSample n) folder input = record {
+    result_proved : (t : TaskValue) (world : World) → IfOk (result_of t world) (λ made. IsProved (lists_of t made))
+    result_proved (RunInput packages path view) world = run_proved packages path world
+    result_proved (RunSample n) world = bytes_proved sample_path (sample n)
+    result_proved (MakeSample n) world = record {
       assumptions = All-nil _;
       accepted = accepted-nil names [];
       theorems = All-nil _;
     }
-    result_proved (CheckLog path) folder input = log_result path folder input
-    result_proved (ShowReadable packages path) folder input = noted_proved packages path folder input
-    result_proved (ReadLines packages path text) folder input = read_proved packages path text folder input
-    result_proved (FindPattern packages pattern path) folder input =
-        if_some EndsFound (λ end. IfOk end (λ s. IsProvedNoted s.noted)) (find_at packages pattern path folder input)
-        (λ end h. ok_more IsProvedSearch (λ s. IsProvedNoted s.noted) end (λ s k. k.input) h)
-        (find_proved packages pattern path folder input)
+    result_proved (CheckLog path) world = log_result path world
+    result_proved (ShowReadable packages path) world = noted_proved packages path world
+    result_proved (ReadLines packages path text) world = read_proved packages path text world
+    result_proved (FindPattern packages pattern path) world =
+        ok_more IsProvedSearch (λ s. IsProvedNoted s.noted) (find_at packages pattern path world) (λ s k. k.input)
+        (find_proved packages pattern path world)
 
     pub answers_are_sound : AnswersAreSound
     answers_are_sound = record {
       results = result_proved;
-      packages = λ packages pattern path folder input.
-          if_some EndsFound (λ end. IfOk end (λ s. All (λ p. IsProvedRun p.ran) s.packages))
-          (find_at packages pattern path folder input)
-          (λ end h. ok_more IsProvedSearch (λ s. All (λ p. IsProvedRun p.ran) s.packages) end (λ s k. k.packages) h)
-          (find_proved packages pattern path folder input);
+      packages = λ packages pattern path world.
+          ok_more IsProvedSearch (λ s. All (λ p. IsProvedRun p.ran) s.packages)
+          (find_at packages pattern path world) (λ s k. k.packages) (find_proved packages pattern path world);
     }

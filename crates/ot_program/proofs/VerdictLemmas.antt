@@ -1,21 +1,22 @@
 -- The verdict on a task, by how it ended.
 use Rattle.std.proofs.Common.{◌≡◌, ℕ, List, refl, sym, subst, ◌∙◌, ◌⊎◌, inl, inr}
 use Rattle.std.specs.Prelude.{Bool, true, false, MatchBool, Option, Some, None, IfSome, Result, Ok, Err, IfOk}
-use Rattle.ot_io.specs.Folder.{Folder}
 use Rattle.ot_repo.specs.Required.{Refusal}
 use Rattle.ot_repo.specs.Required as repo
 use Rattle.ot_link.specs.Stops.{Stop, InArticle, InTheory, InStructure, TooLarge, Missing}
 use Rattle.ot_program.specs.Reply.{TaskValue, RunInput, RunSample, MakeSample, CheckLog, ShowReadable}
 use Rattle.ot_program.specs.Reply.{ReadLines, FindPattern, LogStop, InLog, NoLog, ReadStop, InInput, NoText}
 use Rattle.ot_program.specs.Reply.{TextTooLarge, InLine, FindStop, InRequired, InRun, InPattern}
-use Rattle.ot_program.specs.Reply.{required_status, find_status, over_line, Product, Halt, result_of, text_of}
+use Rattle.ot_program.specs.Reply.{required_status, find_status, over_line, Product, Halt, text_of}
 use Rattle.ot_program.specs.Reply.{fits, stop_status, log_status, read_status, halt_status, halt_line}
-use Rattle.ot_program.specs.Answer.{IsOwnHalt, IsFailedPath, LastPath}
-use Rattle.ot_program.specs.Verdicts.{End, Finished, Stopped, Failed, IsEnd, HasTaskCause}
+use Rattle.ot_program.specs.World.{World, anywhere}
+use Rattle.ot_program.specs.Answer.{IsResult, IsOwnHalt, IsFailedPath, IsStopLine}
+use Rattle.ot_program.specs.Verdicts.{End, Finished, Stopped, Failed, IsEnd, HasTaskCause, HasTaskEnd}
 use Rattle.ot_program.specs.Verdicts.{IsSaid, IsFinal, IsVerdictOn, IsVerdictOf, IsTextOf, IsTaskVerdict}
 use Rattle.ot_program.specs.declared.report.Verdict.{Verdict}
 use Rattle.ot_program.specs.declared.status.Status.{Status}
-use Rattle.ot_program.specs.declared.status.Status.TheVariants.{Accepted, Refused, NoFile, ReadFault}
+use Rattle.ot_program.specs.declared.status.Status.TheVariants.{Accepted, Refused, Usage, NoFile}
+use Rattle.ot_program.specs.declared.status.Status.TheVariants.{ReadFault, WriteFault, Memory}
 
 -- ---- the status of a stop
 
@@ -66,26 +67,23 @@ refusal (FindPattern packages pattern path) s = find_refusal s
 -- ---- what the text of a verdict says
 
 -- the line of a stop
-stop_says : (t : TaskValue) (folder : Option Folder) (input : Option (List ℕ)) (I : Type 0)
-    (F : List ℕ → Type 0) (s : Halt t) (line : List ℕ)
-    → line ≡ halt_line t s → IfSome (result_of t folder input) (λ answer. answer ≡ Err s) → IsOwnHalt t s
-    → IsRefusal (halt_status t s) → IsTextOf (halt_status t s) t folder input I F line
-stop_says t folder input I F s line is known own (inl e) =
-    let P : Status → Type 0 = λ status. IsTextOf status t folder input I F line in
+stop_says : (t : TaskValue) (May : World → Type 0) (I : Type 0) (F : List ℕ → Type 0) (s : Halt t) (line : List ℕ)
+    → line ≡ halt_line t s → IsResult t May (Err s) → IsOwnHalt t s
+    → IsRefusal (halt_status t s) → IsTextOf (halt_status t s) t May I F line
+stop_says t May I F s line is known own (inl e) =
+    let P : Status → Type 0 = λ status. IsTextOf status t May I F line in
     subst P (sym e) (inl (record { stop = s; stopped = known; own = own; status_is = e; line_is = is }))
-stop_says t folder input I F s line is known own (inr e) =
-    let P : Status → Type 0 = λ status. IsTextOf status t folder input I F line in
+stop_says t May I F s line is known own (inr e) =
+    let P : Status → Type 0 = λ status. IsTextOf status t May I F line in
     subst P (sym e) (record { stop = s; stopped = known; own = own; status_is = e; line_is = is })
 
 -- the text of a task that ended, by whether it is within the limit
-final_says : (t : TaskValue) (folder : Option Folder) (input : Option (List ℕ)) (I : Type 0)
-    (F : List ℕ → Type 0) (x : Product t) (v : Verdict)
+final_says : (t : TaskValue) (May : World → Type 0) (I : Type 0) (F : List ℕ → Type 0) (x : Product t) (v : Verdict)
     (b : Bool)
     → fits t x ≡ b → MatchBool b (IsSaid v Accepted (text_of t x)) (IsSaid v Refused (over_line t))
-    → IsFinal t x v → IfSome (result_of t folder input) (λ answer. answer ≡ Ok x)
-    → IsTextOf v.status t folder input I F v.text.items
-final_says t folder input I F x v true fit said final known =
-    let P : Status → Type 0 = λ s. IsTextOf s t folder input I F v.text.items in
+    → IsFinal t x v → IsResult t May (Ok x) → IsTextOf v.status t May I F v.text.items
+final_says t May I F x v true fit said final known =
+    let P : Status → Type 0 = λ s. IsTextOf s t May I F v.text.items in
     subst P (sym said.status_is) (record {
       made = x;
       ended = known;
@@ -95,8 +93,8 @@ final_says t folder input I F x v true fit said final known =
       fits_is = fit;
       text_is = said.text_is;
     })
-final_says t folder input I F x v false fit said final known =
-    let P : Status → Type 0 = λ s. IsTextOf s t folder input I F v.text.items in
+final_says t May I F x v false fit said final known =
+    let P : Status → Type 0 = λ s. IsTextOf s t May I F v.text.items in
     subst P (sym said.status_is) (inr (record {
       made = x;
       ended = known;
@@ -105,17 +103,16 @@ final_says t folder input I F x v false fit said final known =
       line_is = said.text_is;
     }))
 
-verdict_says : (t : TaskValue) (folder : Option Folder) (input : Option (List ℕ)) (I : Type 0)
-    (F : List ℕ → Type 0) (Q : Type 0) (e : End (Product t) (Halt t)) (v : Verdict)
-    → IsVerdictOn t v e → IsEnd t folder input e → HasTaskCause t folder input I F Q e
-    → IsTextOf v.status t folder input I F v.text.items
-verdict_says t folder input I F Q (Finished x) v on known cause =
-    final_says t folder input I F x v (fits t x) refl on.ends on known
-verdict_says t folder input I F Q (Stopped s) v on known cause =
-    let P : Status → Type 0 = λ status. IsTextOf status t folder input I F v.text.items in
-    subst P (sym on.status_is) (stop_says t folder input I F s v.text.items on.text_is known cause.0 (refusal t s))
-verdict_says t folder input I F Q (Failed path) v on known cause =
-    let P : Status → Type 0 = λ status. IsTextOf status t folder input I F v.text.items in
+verdict_says : (t : TaskValue) (May : World → Type 0) (I : Type 0) (F : List ℕ → Type 0) (Q : Type 0)
+    (e : End (Product t) (Halt t)) (v : Verdict)
+    → IsVerdictOn t v e → IsEnd t May e → HasTaskCause t May I F Q e → IsTextOf v.status t May I F v.text.items
+verdict_says t May I F Q (Finished x) v on known cause =
+    final_says t May I F x v (fits t x) refl on.ends on known
+verdict_says t May I F Q (Stopped s) v on known cause =
+    let P : Status → Type 0 = λ status. IsTextOf status t May I F v.text.items in
+    subst P (sym on.status_is) (stop_says t May I F s v.text.items on.text_is known cause.0 (refusal t s))
+verdict_says t May I F Q (Failed path) v on known cause =
+    let P : Status → Type 0 = λ status. IsTextOf status t May I F v.text.items in
     subst P (sym on.status_is) (record { failed = path; path = cause; line_is = on.text_is })
 
 -- ---- the cause of its status
@@ -130,47 +127,80 @@ not_missing : {X : Type 0} (s : Status) → (s ≡ Accepted) ⊎ (s ≡ Refused)
 not_missing s (inl accepted) is = let h : Accepted ≡ NoFile = sym accepted ∙ is in absurd cc
 not_missing s (inr refused) is = let h : Refused ≡ NoFile = sym refused ∙ is in absurd cc
 
-missing_on : (t : TaskValue) (folder : Option Folder) (input : Option (List ℕ)) (I : Type 0) (F : List ℕ → Type 0)
-    (Q : Type 0) (v : Verdict) (e : End (Product t) (Halt t))
-    → IsVerdictOn t v e → HasTaskCause t folder input I F Q e → v.status ≡ NoFile → Q
-missing_on t folder input I F Q v (Finished x) on cause is =
+missing_on : (t : TaskValue) (May : World → Type 0) (I : Type 0) (F : List ℕ → Type 0) (Q : Type 0) (v : Verdict)
+    (e : End (Product t) (Halt t))
+    → IsVerdictOn t v e → HasTaskCause t May I F Q e → v.status ≡ NoFile → Q
+missing_on t May I F Q v (Finished x) on cause is =
     not_missing v.status (ended_status v (fits t x) _ _ on.ends) is
-missing_on t folder input I F Q v (Stopped s) on cause is = cause.1 (sym on.status_is ∙ is)
-missing_on t folder input I F Q v (Failed path) on cause is =
+missing_on t May I F Q v (Stopped s) on cause is = cause.1 (sym on.status_is ∙ is)
+missing_on t May I F Q v (Failed path) on cause is =
     let h : ReadFault ≡ NoFile = sym on.status_is ∙ is in absurd cc
 
 -- ---- the verdict on a task
 
 pub task_verdict : {E : Type 0} (I : Type 0) (F : List ℕ → Type 0) (Q : Type 0) (t : TaskValue)
-    (folder : Option Folder) (input at : Option (List ℕ))
-    (o : Option (End (Product t) (Halt t))) (r : Result Verdict E)
-    → IfOk r (IsVerdictOf t o) → IfSome o (IsEnd t folder input) → IfSome o (HasTaskCause t folder input I F Q)
-    → IfSome o (λ _. LastPath t folder at) → IfOk r (IsTaskVerdict t folder input at I F Q)
-task_verdict I F Q t folder input at o (Err e) on known cause last = tt
-task_verdict I F Q t folder input at None (Ok v) on known cause last = absurd on
-task_verdict I F Q t folder input at (Some e) (Ok v) on known cause last = record {
-  says = verdict_says t folder input I F Q e v on known cause;
-  missing = missing_on t folder input I F Q v e on cause;
-  at = last;
+    (May : World → Type 0) (o : Option (End (Product t) (Halt t))) (r : Result Verdict E)
+    → IfOk r (IsVerdictOf t o) → IfSome o (λ e. HasTaskEnd t I F Q e May) → IfOk r (λ v. IsTaskVerdict t I F Q v May)
+task_verdict I F Q t May o (Err e) on ended = tt
+task_verdict I F Q t May None (Ok v) on ended = absurd on
+task_verdict I F Q t May (Some e) (Ok v) on ended = record {
+  says = verdict_says t May I F Q e v on ended.end ended.cause;
+  missing = missing_on t May I F Q v e on ended.cause;
 }
 
--- what reads nothing names no path that failed
-unfailing_says : (I : Type 0) (F : List ℕ → Type 0) (t : TaskValue) (folder : Option Folder)
-    (input : Option (List ℕ)) (status : Status) (text : List ℕ)
-    → ((failed : List ℕ) → ¬ IsFailedPath t folder input ⊥ (λ file. ⊥) failed)
-    → IsTextOf status t folder input ⊥ (λ file. ⊥) text → IsTextOf status t folder input I F text
-unfailing_says I F t folder input ReadFault text unfailing says = absurd (unfailing says.failed says.path)
-unfailing_says I F t folder input _ text unfailing says = says
+-- what holds where the end is known
+pub last_path : {E : Type 0} (P : Type 0) (t : TaskValue) (o : Option (End (Product t) (Halt t)))
+    (r : Result Verdict E) → IfOk r (IsVerdictOf t o) → IfSome o (λ _. P) → IfOk r (λ v. P)
+last_path P t o (Err e) on last = tt
+last_path P t None (Ok v) on last = absurd on
+last_path P t (Some e) (Ok v) on last = last
+
+-- the line of a stop that comes in any world
+stop_anywhere : (t : TaskValue) (status : Status) (May : World → Type 0) (line : List ℕ)
+    → IsStopLine status t anywhere line → IsStopLine status t May line
+stop_anywhere t status May line h = record {
+  stop = h.stop;
+  stopped = λ world may. h.stopped world tt;
+  own = h.own;
+  status_is = h.status_is;
+  line_is = h.line_is;
+}
+
+-- what reads nothing ends in one way in any world, and names no path that failed
+unfailing_says : (I : Type 0) (F : List ℕ → Type 0) (t : TaskValue) (May : World → Type 0) (status : Status)
+    (text : List ℕ)
+    → ((failed : List ℕ) → ¬ IsFailedPath t anywhere ⊥ (λ file. ⊥) failed)
+    → IsTextOf status t anywhere ⊥ (λ file. ⊥) text → IsTextOf status t May I F text
+unfailing_says I F t May Accepted text unfailing says = record {
+  made = says.made;
+  ended = λ world may. says.ended world tt;
+  proved = says.proved;
+  promised = says.promised;
+  one_text = says.one_text;
+  fits_is = says.fits_is;
+  text_is = says.text_is;
+}
+unfailing_says I F t May Refused text unfailing (inl says) = inl (stop_anywhere t Refused May text says)
+unfailing_says I F t May Refused text unfailing (inr says) = inr (record {
+  made = says.made;
+  ended = λ world may. says.ended world tt;
+  proved = says.proved;
+  large = says.large;
+  line_is = says.line_is;
+})
+unfailing_says I F t May NoFile text unfailing says = stop_anywhere t NoFile May text says
+unfailing_says I F t May ReadFault text unfailing says = absurd (unfailing says.failed says.path)
+unfailing_says I F t May Usage text unfailing says = absurd says
+unfailing_says I F t May WriteFault text unfailing says = absurd says
+unfailing_says I F t May Memory text unfailing says = absurd says
 
 -- and none was counted missing
 pub unfailing : {E : Type 0} (I : Type 0) (F : List ℕ → Type 0) (Q : Type 0) (t : TaskValue)
-    (folder : Option Folder) (input at : Option (List ℕ)) (r : Result Verdict E)
-    → ((failed : List ℕ) → ¬ IsFailedPath t folder input ⊥ (λ file. ⊥) failed)
-    → IfOk r (IsTaskVerdict t folder input at ⊥ (λ file. ⊥) ⊥)
-    → IfOk r (IsTaskVerdict t folder input at I F Q)
-unfailing I F Q t folder input at (Err e) none h = tt
-unfailing I F Q t folder input at (Ok v) none h = record {
-  says = unfailing_says I F t folder input v.status v.text.items none h.says;
+    (May : World → Type 0) (r : Result Verdict E)
+    → ((failed : List ℕ) → ¬ IsFailedPath t anywhere ⊥ (λ file. ⊥) failed)
+    → IfOk r (λ v. IsTaskVerdict t ⊥ (λ file. ⊥) ⊥ v anywhere) → IfOk r (λ v. IsTaskVerdict t I F Q v May)
+unfailing I F Q t May (Err e) none h = tt
+unfailing I F Q t May (Ok v) none h = record {
+  says = unfailing_says I F t May v.status v.text.items none h.says;
   missing = λ is. absurd (h.missing is);
-  at = h.at;
 }

@@ -1,7 +1,6 @@
 -- How the program's status and texts stand to the stated reply.
 use Rattle.std.specs.Prelude.{◌≡◌, ◌⊎◌, ◌∷◌, ◌++◌, ℕ, List, [], true, false, ◌||◌, Option, Some, None}
 use Rattle.std.specs.Prelude.{Result, Ok, Err, MatchBool, IfErr, IfSome, IsSomeAnd}
-use Rattle.std.specs.Option.{option_map}
 use Rattle.std.specs.List.{All}
 use Rattle.std.specs.Io.KnownBytes.{Appends}
 use Rattle.ot_logic.specs.Names.{Name}
@@ -33,12 +32,13 @@ use Rattle.ot_find.specs.Matches.{AreMatches, exports_of as all_exports}
 use Rattle.ot_program.specs.declared.task.View.{View}
 use Rattle.ot_program.specs.declared.task.View.TheVariants.{Counts, Summary, Uses, Article, Log}
 use Rattle.ot_program.specs.Texts.{usage_line, read_fault_line, write_fault_line, memory_line}
+use Rattle.ot_program.specs.World.{World, Every}
 use Rattle.ot_program.specs.Reply.{Reply, TaskValue, RunInput, RunSample, MakeSample, CheckLog, ShowReadable}
 use Rattle.ot_program.specs.Reply.{ReadLines, FindPattern, ReadStop, InInput, FindStop, InRequired, InRun}
 use Rattle.ot_program.specs.Reply.{InPattern, PackageRun, Searched, limits, sample_path, input_of, is_standard}
-use Rattle.ot_program.specs.Reply.{Noted, notation, noted, noted_at, theory_shown, package_runs}
-use Rattle.ot_program.specs.Reply.{assumptions_of, exports_of, sources, found, theory_run, Product, Halt, KnownResult}
-use Rattle.ot_program.specs.Reply.{result_of, opened, text_of, fits, Lists, lists_of, run_lists, halt_status}
+use Rattle.ot_program.specs.Reply.{Noted, notation, noted, noted_at, theory_shown, package_runs, required_at}
+use Rattle.ot_program.specs.Reply.{assumptions_of, exports_of, sources, found, theory_run, Product, Halt, task_of}
+use Rattle.ot_program.specs.Reply.{answer, result_of, opened, text_of, fits, Lists, lists_of, run_lists, halt_status}
 use Rattle.ot_program.specs.Reply.{halt_line, over_line, article_limit, written_limit, article_text, log_text}
 use Rattle.ot_program.specs.declared.status.Status.{Status}
 use Rattle.ot_program.specs.declared.status.Status.TheVariants.{Accepted, Refused, Usage, NoFile}
@@ -108,12 +108,16 @@ IsPromisedBy (ShowReadable packages path) n = AreReadBack n
 IsPromisedBy (ReadLines packages path text) r = StandFor (notation r.noted) r.lines r.sequents
 IsPromisedBy (FindPattern packages pattern path) s = IsSearch pattern path s
 
--- the result of the task is `made`, as far as its end is known, and the theorems of that are `proved`; what the task
+-- the task ends so in each world that may be
+abbrev pub IsResult : (t : TaskValue) → (May : World → Type 0) → Result (Product t) (Halt t) → Type 0
+IsResult t May result = Every May (λ world. result_of t world ≡ result)
+
+-- the result of the task is `made`, in each world that may be, and the theorems of that are `proved`; what the task
 -- promises of it besides is kept (`promised`). The text is what the task prints of it, and is within its limit
 -- (`fits_is`). Two well typed sequents, or two accepted definitions, with one text are one (`one_text`)
-pub record IsReport (t : TaskValue) (known : KnownResult t) (text : List ℕ) : Type 0 where
+pub record IsReport (t : TaskValue) (May : World → Type 0) (text : List ℕ) : Type 0 where
   pub made : Product t
-  pub ended : IfSome known (λ answer. answer ≡ Ok made)
+  pub ended : IsResult t May (Ok made)
   pub proved : IsProved (lists_of t made)
   pub promised : IsPromisedBy t made
   pub one_text : TextsNameOne
@@ -154,17 +158,17 @@ IsOwnHalt (ReadLines packages path text) stop = IsReadStop path stop
 IsOwnHalt (FindPattern packages pattern path) stop = IsFindStop path stop
 
 -- it is the line of what stopped the task
-pub record IsStopLine (status : Status) (t : TaskValue) (known : KnownResult t) (line : List ℕ) : Type 0 where
+pub record IsStopLine (status : Status) (t : TaskValue) (May : World → Type 0) (line : List ℕ) : Type 0 where
   pub stop : Halt t
-  pub stopped : IfSome known (λ answer. answer ≡ Err stop)
+  pub stopped : IsResult t May (Err stop)
   pub own : IsOwnHalt t stop
   pub status_is : halt_status t stop ≡ status
   pub line_is : line ≡ halt_line t stop
 
 -- it is the line for a text of the task's end that is past its limit
-pub record IsLargeLine (t : TaskValue) (known : KnownResult t) (line : List ℕ) : Type 0 where
+pub record IsLargeLine (t : TaskValue) (May : World → Type 0) (line : List ℕ) : Type 0 where
   pub made : Product t
-  pub ended : IfSome known (λ answer. answer ≡ Ok made)
+  pub ended : IsResult t May (Ok made)
   pub proved : IsProved (lists_of t made)
   pub large : fits t made ≡ false
   pub line_is : line ≡ over_line t
@@ -174,10 +178,14 @@ abbrev pub FileFailed : Option (List ℕ) → (before now : ℕ) → List ℕ �
 FileFailed at before now file = CountRose before now × IfSome at (λ asked. file ≡ asked)
 
 -- the path of an input that failed: `-`, where standard input failed, or that of a needed file, which failed
-abbrev pub IsReadPath : List ℕ → Option (List (List ℕ)) → (InputFails : Type 0) → (FileFails : List ℕ → Type 0)
+abbrev pub IsReadPath : List ℕ → (IsNeeded : Type 0) → (InputFails : Type 0) → (FileFails : List ℕ → Type 0)
     → List ℕ → Type 0
-IsReadPath path files InputFails FileFails failed =
-    MatchBool (is_standard path) ((failed ≡ path) × InputFails) (IfSome files (IsMember failed) × FileFails failed)
+IsReadPath path IsNeeded InputFails FileFails failed =
+    MatchBool (is_standard path) ((failed ≡ path) × InputFails) (IsNeeded × FileFails failed)
+
+-- a file that the input of a task needs, in each world that may be
+abbrev pub IsOpened : TaskValue → (May : World → Type 0) → List ℕ → Type 0
+IsOpened t May file = Every May (λ world. IsMember file (opened t world.folder))
 
 -- a search needs a file besides: one of the walk over what a theory file requires; or, behind that, the run of the
 -- input, the pattern and the runs of the packages before it, one that the run of a package needs
@@ -192,37 +200,31 @@ pub data IsSearchFile (packages pattern path : List ℕ) (folder : Folder) : Lis
       → IsMember file (theory_run packages (package_path packages full) folder).paths
       → IsSearchFile packages pattern path folder file
 
--- as far as it is known, it is a result and no stop
-abbrev pub HasNoStop : {A S : Type 0} → Option (Result A S) → Type 0
-HasNoStop known = IfSome known (λ answer. IfErr answer (λ stop. ⊥))
-
--- what the input requires was found, so its run is needed
-abbrev pub IsRequiredFound : (packages path : List ℕ) → Option Folder → Type 0
-IsRequiredFound packages path folder =
-    MatchBool (is_theory path)
-    (HasNoStop (option_map (λ files. required files limits.theory_bytes packages path) folder)) (Unit {0})
+-- it is a result and no stop
+abbrev pub HasNoStop : {A S : Type 0} → Result A S → Type 0
+HasNoStop answer = IfErr answer (λ stop. ⊥)
 
 -- the path that a read fault names, and that its device failed: that of the input; or that of another file that the task
--- needs: of `read` the text, which is always a file and read behind the input; of `find` one that a search needs
-abbrev pub IsFailedPath : TaskValue → Option Folder → Option (List ℕ) → (InputFails : Type 0)
-    → (FileFails : List ℕ → Type 0) → List ℕ
-    → Type 0
-IsFailedPath (ReadLines packages path text) folder input InputFails FileFails failed =
-    IsReadPath path (opened (ReadLines packages path text) folder) InputFails FileFails failed
-    ⊎ ((failed ≡ text) × HasNoStop (noted_at packages path folder input) × FileFails failed)
-IsFailedPath (FindPattern packages pattern path) folder input InputFails FileFails failed =
-    (IsReadPath path (opened (FindPattern packages pattern path) folder) InputFails FileFails failed
-    × IsRequiredFound packages path folder)
-    ⊎ ((is_theory path ≡ true) × IfSome folder (λ files. IsSearchFile packages pattern path files failed)
+-- needs: of `read` the text, which is always a file and read behind the input; of `find`, whose input is run where what
+-- it requires was found, one that a search needs
+abbrev pub IsFailedPath : TaskValue → (May : World → Type 0) → (InputFails : Type 0) → (FileFails : List ℕ → Type 0)
+    → List ℕ → Type 0
+IsFailedPath (ReadLines packages path text) May InputFails FileFails failed =
+    IsReadPath path (IsOpened (ReadLines packages path text) May failed) InputFails FileFails failed
+    ⊎ ((failed ≡ text) × Every May (λ world. HasNoStop (noted_at packages path world)) × FileFails failed)
+IsFailedPath (FindPattern packages pattern path) May InputFails FileFails failed =
+    (IsReadPath path (IsOpened (FindPattern packages pattern path) May failed) InputFails FileFails failed
+    × Every May (λ world. HasNoStop (required_at packages path world.folder)))
+    ⊎ ((is_theory path ≡ true) × Every May (λ world. IsSearchFile packages pattern path world.folder failed)
     × FileFails failed)
-IsFailedPath t folder input InputFails FileFails failed =
-    IsReadPath (input_of t) (opened t folder) InputFails FileFails failed
+IsFailedPath t May InputFails FileFails failed =
+    IsReadPath (input_of t) (IsOpened t May failed) InputFails FileFails failed
 
 -- it is the line for an input that failed
-pub record IsFailureLine (t : TaskValue) (folder : Option Folder) (input : Option (List ℕ))
-    (InputFails : Type 0) (FileFails : List ℕ → Type 0) (line : List ℕ) : Type 0 where
+pub record IsFailureLine (t : TaskValue) (May : World → Type 0) (InputFails : Type 0) (FileFails : List ℕ → Type 0)
+    (line : List ℕ) : Type 0 where
   pub failed : List ℕ
-  pub path : IsFailedPath t folder input InputFails FileFails failed
+  pub path : IsFailedPath t May InputFails FileFails failed
   pub line_is : line ≡ read_fault_line failed
 
 -- ---- what is written, and what is said
@@ -264,30 +266,61 @@ SaysWhy WriteFault written faults old new IsOne = SomeText IsOne (WritesLine wri
 SaysWhy Memory written faults old new IsOne = SomeText IsOne (WritesLine written faults old new)
 
 -- the headline: a text on output is a report on the end of the task
-abbrev pub IsOutput : Option TaskValue → Option Folder → Option (List ℕ) → List ℕ → Type 0
-IsOutput t folder input text = IsSomeAnd t (λ task. IsReport task (result_of task folder input) text)
+abbrev pub IsOutput : Option TaskValue → (May : World → Type 0) → List ℕ → Type 0
+IsOutput t May text = IsSomeAnd t (λ task. IsReport task May text)
 
 -- what the counts of a call say: standard input failed; the files did, and this is the path that was asked for last, as
--- far as that is known; a file was missing; the output failed
+-- far as that is known; the files did; a file was missing; the output failed
 pub record Failures : Type 1 where
   pub input : Type 0
   pub file : List ℕ → Type 0
+  pub files : Type 0
   pub missing : Type 0
   pub output : Type 0
 
 -- the line on standard error that goes with a status, and what failed
-abbrev pub IsErrorLine : Status → Option TaskValue → Option Folder → Option (List ℕ) → Failures → List ℕ → Type 0
-IsErrorLine Accepted t folder input failures line = ⊥
-IsErrorLine Refused t folder input failures line =
-    IsSomeAnd t (λ task. IsStopLine Refused task (result_of task folder input) line
-    ⊎ IsLargeLine task (result_of task folder input) line)
-IsErrorLine Usage t folder input failures line = line ≡ usage_line
-IsErrorLine NoFile t folder input failures line =
-    IsSomeAnd t (λ task. IsStopLine NoFile task (result_of task folder input) line) × failures.missing
-IsErrorLine ReadFault t folder input failures line =
-    IsSomeAnd t (λ task. IsFailureLine task folder input failures.input failures.file line)
-IsErrorLine WriteFault t folder input failures line = (line ≡ write_fault_line) × failures.output
-IsErrorLine Memory t folder input failures line = line ≡ memory_line
+abbrev pub IsErrorLine : Status → Option TaskValue → (May : World → Type 0) → Failures → List ℕ → Type 0
+IsErrorLine Accepted t May failures line = ⊥
+IsErrorLine Refused t May failures line =
+    IsSomeAnd t (λ task. IsStopLine Refused task May line ⊎ IsLargeLine task May line)
+IsErrorLine Usage t May failures line = line ≡ usage_line
+IsErrorLine NoFile t May failures line =
+    IsSomeAnd t (λ task. IsStopLine NoFile task May line) × failures.missing
+IsErrorLine ReadFault t May failures line =
+    IsSomeAnd t (λ task. IsFailureLine task May failures.input failures.file line)
+IsErrorLine WriteFault t May failures line = (line ≡ write_fault_line) × failures.output
+IsErrorLine Memory t May failures line = line ≡ memory_line
+
+-- ---- all that is said of what was read
+
+-- what is said of a run of these words that may have read any world of these: status and texts are those of the stated
+-- answer, unless a device failed or memory ran out (`reply`), so where no count rose the status is the stated one, or
+-- memory ran out (`complete`); what is printed is a report (`output`); and what is said is the status's line, and the
+-- device that it blames counted the failure (`error`)
+pub record IsAnswered {O E : Type 0} (words : List (List ℕ)) (status : Status) (failures : Failures)
+    (written : O → Option (List ℕ)) (flushed : O → Option ℕ) (out out' : O)
+    (said : E → Option (List ℕ)) (faults : E → ℕ) (err err' : E) (May : World → Type 0) : Type 0 where
+  pub reply : Every May (λ world. MatchesReply status (answer words world) (written out) (written out')
+      (WritesLine said faults err err'))
+  pub complete : Every May (λ world. ¬ failures.input → ¬ failures.files → ¬ failures.output
+      → (status ≡ Memory) ⊎ (status ≡ (answer words world).status))
+  pub output : Outputs status written flushed out out' (IsOutput (task_of words) May)
+  pub error : SaysWhy status said faults err err' (IsErrorLine status (task_of words) May failures)
+
+-- a task of which no input is a file; the text of `read` is always one
+abbrev pub AsksNoFile : TaskValue → Type 0
+AsksNoFile (RunInput packages path view) = is_standard path ≡ true
+AsksNoFile (RunSample n) = Unit {0}
+AsksNoFile (MakeSample n) = Unit {0}
+AsksNoFile (CheckLog path) = is_standard path ≡ true
+AsksNoFile (ShowReadable packages path) = is_standard path ≡ true
+AsksNoFile (ReadLines packages path text) = ⊥
+AsksNoFile (FindPattern packages pattern path) = is_standard path ≡ true
+
+-- nor does anything where there is no task
+abbrev pub NoFileIsAsked : Option TaskValue → Type 0
+NoFileIsAsked None = Unit {0}
+NoFileIsAsked (Some t) = AsksNoFile t
 
 -- ---- what else becomes of the inputs
 

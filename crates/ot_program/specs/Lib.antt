@@ -1,5 +1,6 @@
 -- What the program answers: the texts of faults, and the reply to words and input.
 pub mod Texts
+pub mod World
 pub mod Reply
 pub mod Answer
 pub mod Laws

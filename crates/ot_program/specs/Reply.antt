@@ -2,7 +2,7 @@
 use Rattle.std.specs.Prelude.{ℕ, List, [], ◌∷◌, ◌++◌, Bool, true, ◌==◌, count_by, length, map}
 use Rattle.std.specs.Prelude.{codes, nat_le, Option, Some, None, Result, Ok, Err, if◌then◌else◌}
 use Rattle.std.specs.List.{concat}
-use Rattle.std.specs.Option.{option_map, option_and_then}
+use Rattle.std.specs.Option.{option_map}
 use Rattle.std.specs.Fmt.{decimal}
 use Rattle.std.specs.Str.{bytes_eq}
 use Rattle.ot_logic.specs.Names.{Name}
@@ -38,6 +38,7 @@ use Rattle.ot_verify.specs.Reading.{log_check}
 use Rattle.ot_verify.specs.Verifying.{Proved, proved_by, proved_text}
 use Rattle.ot_program.specs.Texts.{stop_line, required_line, log_line, column_line, missing_line, large_line}
 use Rattle.ot_program.specs.Texts.{large_article_line, large_log_line, large_text_line, usage_line}
+use Rattle.ot_program.specs.World.{World}
 use Rattle.ot_program.specs.declared.status.Status.{Status}
 use Rattle.ot_program.specs.declared.status.Status.TheVariants.{Accepted, Refused, Usage, NoFile}
 use Rattle.ot_program.specs.declared.task.View.{View}
@@ -153,19 +154,19 @@ article_run path folder = record {
 unfoldable pub theory_run : List ℕ → List ℕ → Folder → Linked Ran
 theory_run packages path folder = link (record { folder = folder; packages = packages; limits = limits }) path
 
--- the run of an input, over the files and the bytes of standard input that are known
-abbrev pub run_at : List ℕ → List ℕ → Option Folder → Option (List ℕ) → Option (Linked Ran)
-run_at packages path folder input =
-    if is_standard path then option_map (standard_run path) input
-    else if is_theory path then option_map (theory_run packages path) folder
-    else option_map (article_run path) folder
+-- the run of an input
+abbrev pub run_at : List ℕ → List ℕ → World → Linked Ran
+run_at packages path world =
+    if is_standard path then standard_run path world.input
+    else if is_theory path then theory_run packages path world.folder
+    else article_run path world.folder
 
--- the paths of the files that the run of an input needs, in order, as far as they are known
-abbrev pub opened_at : List ℕ → List ℕ → Option Folder → Option (List (List ℕ))
+-- the paths of the files that the run of an input needs, in order
+abbrev pub opened_at : List ℕ → List ℕ → Folder → List (List ℕ)
 opened_at packages path folder =
-    if is_standard path then Some []
-    else if is_theory path then option_map (λ files. (theory_run packages path files).paths) folder
-    else Some (path ∷ [])
+    if is_standard path then []
+    else if is_theory path then (theory_run packages path folder).paths
+    else path ∷ []
 
 -- its result
 abbrev pub assumptions_of : Ran → List (Sequent Name)
@@ -188,25 +189,21 @@ pub record Noted : Type 0 where
 unfoldable pub theory_shown : List ℕ → Folder → Linked (List Name)
 theory_shown path folder = shown (record { folder = folder; packages = []; limits = limits }) path
 
--- those that an input shows, over the files that are known; an article shows none
-abbrev pub shown_at : List ℕ → Option Folder → Option (Linked (List Name))
-shown_at path folder = if is_theory path then option_map (theory_shown path) folder else Some (answered (Ok []))
+-- those that an input shows; an article shows none
+abbrev pub shown_at : List ℕ → Folder → Linked (List Name)
+shown_at path folder = if is_theory path then theory_shown path folder else answered (Ok [])
 
 -- what is shown comes before the run, and stops it first
 abbrev pub noted : Result (List Name) Stop → Result Ran Stop → Result Noted Stop
 noted names ran = names >>= λ ns. ran >>= λ r. Ok (record { shown = ns; ran = r })
 
--- both, as far as they are known
-abbrev pub noted_known : Option (Linked (List Name)) → Option (Linked Ran) → Option (Result Noted Stop)
-noted_known names ran = option_and_then (λ ns. option_map (λ r. noted ns.answer r.answer) ran) names
-
--- the run of an input with its notation, over the files and the bytes of standard input that are known
-abbrev pub noted_at : List ℕ → List ℕ → Option Folder → Option (List ℕ) → Option (Result Noted Stop)
-noted_at packages path folder input = noted_known (shown_at path folder) (run_at packages path folder input)
+-- the run of an input with its notation
+abbrev pub noted_at : List ℕ → List ℕ → World → Result Noted Stop
+noted_at packages path world = noted (shown_at path world.folder).answer (run_at packages path world).answer
 
 -- the paths of the files that both need
-abbrev pub opened_first : Option (Linked (List Name)) → Option (List (List ℕ)) → Option (List (List ℕ))
-opened_first names opened = option_and_then (λ ns. option_map (λ paths. ns.paths ++ paths) opened) names
+abbrev pub opened_noted : List ℕ → List ℕ → Folder → List (List ℕ)
+opened_noted packages path folder = (shown_at path folder).paths ++ opened_at packages path folder
 
 -- the symbols that a run writes by their base names: symbols of its assumptions, its exports and its definitions'
 -- premises and theorems, in a namespace that is shown
@@ -247,15 +244,13 @@ read_under n ls = readings n ls (lines_read (notation n) ls)
 abbrev pub read_in : Noted → List ℕ → Folder → Result Readings ReadStop
 read_in n text folder = text_in text folder >>= λ bytes. read_under n (text_lines bytes)
 
--- the run comes first, then the text, as far as they are known
-abbrev pub read_behind : List ℕ → Option Folder → Result Noted Stop → Option (Result Readings ReadStop)
-read_behind text folder (Ok n) = option_map (read_in n text) folder
-read_behind text folder (Err stop) = Some (Err (InInput stop))
+-- the run comes first, then the text
+abbrev pub read_behind : List ℕ → Folder → Result Noted Stop → Result Readings ReadStop
+read_behind text folder (Ok n) = read_in n text folder
+read_behind text folder (Err stop) = Err (InInput stop)
 
-abbrev pub read_at : (packages path text : List ℕ) → Option Folder → Option (List ℕ)
-    → Option (Result Readings ReadStop)
-read_at packages path text folder input =
-    option_and_then (read_behind text folder) (noted_at packages path folder input)
+abbrev pub read_at : (packages path text : List ℕ) → World → Result Readings ReadStop
+read_at packages path text world = read_behind text world.folder (noted_at packages path world)
 
 -- ---- the search for a pattern
 
@@ -301,18 +296,15 @@ search pattern fulls ran runs =
     stops_as InRun (runs fs) >>= λ ps.
     Ok (record { noted = n; pattern = p; packages = ps })
 
--- a theory file may require packages
-abbrev pub search_theory : (packages pattern path : List ℕ) → Folder → Result Searched FindStop
-search_theory packages pattern path folder =
-    search pattern (required folder limits.theory_bytes packages path)
-    (noted (theory_shown path folder).answer (theory_run packages path folder).answer) (package_runs packages folder)
+-- the full names of the packages that an input requires: a theory file may require some, an article requires none
+abbrev pub required_at : (packages path : List ℕ) → Folder → Result (List (List ℕ)) Refusal
+required_at packages path folder =
+    if is_theory path then required folder limits.theory_bytes packages path else Ok []
 
--- an article requires none
-abbrev pub find_at : (packages pattern path : List ℕ) → Option Folder → Option (List ℕ)
-    → Option (Result Searched FindStop)
-find_at packages pattern path folder input =
-    if is_theory path then option_map (search_theory packages pattern path) folder
-    else option_map (λ ran. search pattern (Ok []) ran (λ fulls. Ok [])) (noted_at packages path folder input)
+abbrev pub find_at : (packages pattern path : List ℕ) → World → Result Searched FindStop
+find_at packages pattern path world =
+    search pattern (required_at packages path world.folder) (noted_at packages path world)
+    (package_runs packages world.folder)
 
 -- the required packages in their order, and the input last
 abbrev pub sources : (path : List ℕ) → Searched → List Source
@@ -344,10 +336,9 @@ check_bytes bytes = log_end (log_check article_limit bytes)
 abbrev pub check_file : List ℕ → Folder → Result Proved LogStop
 check_file path folder = some_or NoLog (bytes_at folder path) >>= check_bytes
 
--- the check of a log, over the files and the bytes of standard input that are known
-abbrev pub check_at : List ℕ → Option Folder → Option (List ℕ) → Option (Result Proved LogStop)
-check_at path folder input = if is_standard path then option_map check_bytes input else option_map (check_file path)
-    folder
+-- the check of a log
+abbrev pub check_at : List ℕ → World → Result Proved LogStop
+check_at path world = if is_standard path then check_bytes world.input else check_file path world.folder
 
 -- ---- how a task ends
 
@@ -372,30 +363,26 @@ Halt (ShowReadable packages path) = Stop
 Halt (ReadLines packages path text) = ReadStop
 Halt (FindPattern packages pattern path) = FindStop
 
--- how it ends, as far as that is known
-abbrev pub KnownResult : TaskValue → Type 0
-KnownResult t = Option (Result (Product t) (Halt t))
+-- how it ends
+abbrev pub result_of : (t : TaskValue) → World → Result (Product t) (Halt t)
+result_of (RunInput packages path view) world = (run_at packages path world).answer
+result_of (RunSample n) world = article_end sample_path (outcome (sample n))
+result_of (MakeSample n) world = Ok tt
+result_of (CheckLog path) world = check_at path world
+result_of (ShowReadable packages path) world = noted_at packages path world
+result_of (ReadLines packages path text) world = read_at packages path text world
+result_of (FindPattern packages pattern path) world = find_at packages pattern path world
 
-abbrev pub result_of : (t : TaskValue) → Option Folder → Option (List ℕ) → KnownResult t
-result_of (RunInput packages path view) folder input = option_map (λ l. l.answer) (run_at packages path folder input)
-result_of (RunSample n) folder input = Some (article_end sample_path (outcome (sample n)))
-result_of (MakeSample n) folder input = Some (Ok tt)
-result_of (CheckLog path) folder input = check_at path folder input
-result_of (ShowReadable packages path) folder input = noted_at packages path folder input
-result_of (ReadLines packages path text) folder input = read_at packages path text folder input
-result_of (FindPattern packages pattern path) folder input = find_at packages pattern path folder input
-
--- the paths of the files that its input needs, in order, as far as they are known; the text of `read`, and what `find`
--- needs besides, are named where a read fault is (`IsFailedPath`)
-abbrev pub opened : TaskValue → Option Folder → Option (List (List ℕ))
+-- the paths of the files that its input needs, in order; the text of `read`, and what `find` needs besides, are named
+-- where a read fault is (`IsFailedPath`)
+abbrev pub opened : TaskValue → Folder → List (List ℕ)
 opened (RunInput packages path view) folder = opened_at packages path folder
-opened (RunSample n) folder = Some []
-opened (MakeSample n) folder = Some []
-opened (CheckLog path) folder = Some (if is_standard path then [] else path ∷ [])
-opened (ShowReadable packages path) folder = opened_first (shown_at path folder) (opened_at packages path folder)
-opened (ReadLines packages path text) folder = opened_first (shown_at path folder) (opened_at packages path folder)
-opened (FindPattern packages pattern path) folder =
-    opened_first (shown_at path folder) (opened_at packages path folder)
+opened (RunSample n) folder = []
+opened (MakeSample n) folder = []
+opened (CheckLog path) folder = if is_standard path then [] else path ∷ []
+opened (ShowReadable packages path) folder = opened_noted packages path folder
+opened (ReadLines packages path text) folder = opened_noted packages path folder
+opened (FindPattern packages pattern path) folder = opened_noted packages path folder
 
 -- ---- what is printed of a run
 
@@ -623,10 +610,10 @@ abbrev pub reply_to : (t : TaskValue) → Result (Product t) (Halt t) → Reply
 reply_to t (Ok x) = reply_to_end t x
 reply_to t (Err stop) = fails (halt_status t stop) (halt_line t stop)
 
-abbrev pub reply_to_task : Option TaskValue → Option Folder → Option (List ℕ) → Option Reply
-reply_to_task None folder input = Some (fails Usage usage_line)
-reply_to_task (Some t) folder input = option_map (reply_to t) (result_of t folder input)
+abbrev pub reply_to_task : Option TaskValue → World → Reply
+reply_to_task None world = fails Usage usage_line
+reply_to_task (Some t) world = reply_to t (result_of t world)
 
--- the answer to these words, over the files and the bytes of standard input that are known
-abbrev pub answer : List (List ℕ) → Option Folder → Option (List ℕ) → Option Reply
-answer words folder input = reply_to_task (task_of words) folder input
+-- the answer to these words, over these files and this input
+abbrev pub answer : List (List ℕ) → World → Reply
+answer words world = reply_to_task (task_of words) world

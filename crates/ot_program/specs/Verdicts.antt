@@ -1,7 +1,7 @@
 -- How the parts of the program end. Only contracts of private functions and proofs speak of it.
 use Rattle.std.specs.Prelude.{◌≡◌, ◌≢◌, ◌⊎◌, ◌≤◌, ◌∷◌, ◌++◌, ℕ, true, false, List, [], map, length, nat_le}
-use Rattle.std.specs.Prelude.{Option, Some, None, Result, Ok, Err, Vec, MatchBool, IfSome, IsSomeAnd}
-use Rattle.std.specs.Prelude.{string_bytes}
+use Rattle.std.specs.Prelude.{Option, Some, None, Result, Ok, Err, Vec, MatchBool, IfOk, IfErr, IsSomeAnd, OnOk}
+use Rattle.std.specs.Prelude.{String, string_bytes}
 use Rattle.std.specs.Io.KnownBytes.{Appends}
 use Rattle.std.specs.Global.{Global}
 use Rattle.std.specs.Option.{option_map}
@@ -16,8 +16,8 @@ use Rattle.ot_args.specs.Grammar.{is_theory}
 use Rattle.ot_io.specs.Folder.{Folder}
 use Rattle.ot_io.specs.Sinks.{AppendsFront}
 use Rattle.ot_blocks.specs.Paths.{package_path}
-use Rattle.ot_repo.specs.Required.{Refusal, required}
 use Rattle.ot_repo.specs.Required as repo
+use Rattle.ot_repo.specs.Answers.{names_of}
 use Rattle.ot_repo.specs.declared.fault.RepoFault.{RepoFault}
 use Rattle.ot_repo.specs.declared.fault.RepoFault.TheVariants as repos
 use Rattle.ot_repo.specs.Laws.{IsWalked}
@@ -34,23 +34,24 @@ use Rattle.ot_link.specs.declared.fault.LinkFault.TheVariants as faults
 use Rattle.ot_print.specs.Laws.{TextsNameOne}
 use Rattle.ot_forms.specs.Refusals.{ReadsAsTerm}
 use Rattle.ot_read.specs.Lines.{at_line, term_read, sequent_lines}
-use Rattle.ot_find.specs.Matches.{Source, Found, matches, matches_in}
+use Rattle.ot_find.specs.Matches.{Source, Found, AreMatches, matches, matches_in, exports_of as all_exports}
 use Rattle.ot_find.specs.Texts.{HasFound, find_text}
 use Rattle.ot_find.specs.declared.search.Search.{Search}
 use Rattle.ot_verify.specs.Taking.{fault_of as log_fault_of}
 use Rattle.ot_verify.specs.Verifying.{Proved}
 use Rattle.ot_program.specs.Texts.{stop_line, required_line, column_line, large_line, large_article_line}
 use Rattle.ot_program.specs.Texts.{large_log_line, read_fault_line, write_fault_line}
+use Rattle.ot_program.specs.World.{World, Every}
 use Rattle.ot_program.specs.Reply.{Reply, accepted, fails, TaskValue, RunInput, RunSample, MakeSample}
 use Rattle.ot_program.specs.Reply.{CheckLog, ShowReadable, ReadLines, FindPattern, LogStop, InLog, NoLog}
 use Rattle.ot_program.specs.Reply.{ReadStop, InInput, NoText, TextTooLarge, InLine, Readings, PackageRun}
-use Rattle.ot_program.specs.Reply.{Searched, package_runs, find_at, found, limits, theory_run, noted_at}
+use Rattle.ot_program.specs.Reply.{Searched, package_runs, required_at, sources, found, limits, theory_run}
 use Rattle.ot_program.specs.Reply.{notation, exports_of, run_lists, pattern_path, required_status}
 use Rattle.ot_program.specs.Reply.{find_status, find_line, Noted, readable, Product, Halt, result_of, text_of}
 use Rattle.ot_program.specs.Reply.{fits, article_text, article_fits, log_text, log_fits, lists_of, summary}
 use Rattle.ot_program.specs.Reply.{uses, summary_limit, over_line, stop_status, halt_status, halt_line}
 use Rattle.ot_program.specs.Answer.{IsProved, IsPromisedBy, IsSearch, IsOwnStop, IsInputStop}
-use Rattle.ot_program.specs.Answer.{IsFindStop, IsOwnHalt, IsFailedPath, LastPath, IsReport, IsStopLine}
+use Rattle.ot_program.specs.Answer.{IsFindStop, IsOwnHalt, IsFailedPath, IsResult, IsReport, IsStopLine}
 use Rattle.ot_program.specs.Answer.{IsLargeLine, IsFailureLine}
 use Rattle.ot_program.specs.declared.status.Status.{Status}
 use Rattle.ot_program.specs.declared.status.Status.TheVariants.{Accepted, Refused, Usage, NoFile}
@@ -202,9 +203,9 @@ IsAnswer answer (Finished x) = answer ≡ Ok x
 IsAnswer answer (Stopped s) = answer ≡ Err s
 IsAnswer answer (Failed path) = Unit {0}
 
--- it is the end of the task, as far as that is known
-abbrev pub IsEnd : (t : TaskValue) → Option Folder → Option (List ℕ) → End (Product t) (Halt t) → Type 0
-IsEnd t folder input e = IfSome (result_of t folder input) (λ answer. IsAnswer answer e)
+-- it is the end of the task in each world that may be
+abbrev pub IsEnd : (t : TaskValue) → (May : World → Type 0) → End (Product t) (Halt t) → Type 0
+IsEnd t May e = Every May (λ world. IsAnswer (result_of t world) e)
 
 -- why there is such an end: a stop is one of `Own`, and where its status is `NoFile` a missing file was counted; a path
 -- that failed is one of `Failing`
@@ -215,22 +216,33 @@ HasCause status Own Failing MissRose (Stopped s) = Own s × (status s ≡ NoFile
 HasCause status Own Failing MissRose (Failed path) = Failing path
 
 -- why a task ends so: at a stop of its own, or at a path that it reads
-abbrev pub HasTaskCause : (t : TaskValue) → Option Folder → Option (List ℕ) → (InputFails : Type 0)
+abbrev pub HasTaskCause : (t : TaskValue) → (May : World → Type 0) → (InputFails : Type 0)
     → (FileFails : List ℕ → Type 0) → (MissRose : Type 0) → End (Product t) (Halt t) → Type 0
-HasTaskCause t folder input InputFails FileFails =
-    HasCause (halt_status t) (IsOwnHalt t) (IsFailedPath t folder input InputFails FileFails)
+HasTaskCause t May InputFails FileFails =
+    HasCause (halt_status t) (IsOwnHalt t) (IsFailedPath t May InputFails FileFails)
+
+-- a task ended so, in each world that may be, and for a cause
+pub record HasTaskEnd (t : TaskValue) (InputFails : Type 0) (FileFails : List ℕ → Type 0) (MissRose : Type 0)
+    (e : End (Product t) (Halt t)) (May : World → Type 0) : Type 0 where
+  pub end : IsEnd t May e
+  pub cause : HasTaskCause t May InputFails FileFails MissRose e
 
 -- why the run of an article of this path ends so
 abbrev pub HasOwnCause : List ℕ → (FailureRose MissRose : Type 0) → End Ran Stop → Type 0
 HasOwnCause path FailureRose = HasCause stop_status (IsOwnStop path) (λ failed. (failed ≡ path) × FailureRose)
 
 -- why the run of a theory file ends so: a path that failed is that of a file which it needs
-abbrev pub HasTheoryCause : (packages path : List ℕ) → Option Folder → (FileFails : List ℕ → Type 0)
+abbrev pub HasTheoryCause : (packages path : List ℕ) → (May : Folder → Type 0) → (FileFails : List ℕ → Type 0)
     → (MissRose : Type 0) → End Ran Stop → Type 0
-HasTheoryCause packages path folder FileFails =
+HasTheoryCause packages path May FileFails =
     HasCause stop_status (λ stop. Unit {0})
-    (λ file. IfSome (option_map (λ files. (theory_run packages path files).paths) folder) (IsMember file)
-    × FileFails file)
+    (λ file. Every May (λ folder. IsMember file (theory_run packages path folder).paths) × FileFails file)
+
+-- the run of a theory file ended so, in each folder that may be, and for a cause
+pub record HasTheoryEnd (packages path : List ℕ) (FileFails : List ℕ → Type 0) (MissRose : Type 0)
+    (e : End Ran Stop) (May : Folder → Type 0) : Type 0 where
+  pub end : Every May (λ folder. IsAnswer (theory_run packages path folder).answer e)
+  pub cause : HasTheoryCause packages path May FileFails MissRose e
 
 -- ---- verdicts
 
@@ -307,23 +319,21 @@ abbrev pub IsVerdictOf : (t : TaskValue) → Option (End (Product t) (Halt t)) �
 IsVerdictOf t known v = IsSomeAnd known (IsVerdictOn t v)
 
 -- the text of a verdict with this status
-abbrev pub IsTextOf : Status → TaskValue → Option Folder → Option (List ℕ) → (InputFails : Type 0)
+abbrev pub IsTextOf : Status → TaskValue → (May : World → Type 0) → (InputFails : Type 0)
     → (FileFails : List ℕ → Type 0) → List ℕ → Type 0
-IsTextOf Accepted t folder input InputFails FileFails text = IsReport t (result_of t folder input) text
-IsTextOf Refused t folder input InputFails FileFails line =
-    IsStopLine Refused t (result_of t folder input) line ⊎ IsLargeLine t (result_of t folder input) line
-IsTextOf NoFile t folder input InputFails FileFails line = IsStopLine NoFile t (result_of t folder input) line
-IsTextOf ReadFault t folder input InputFails FileFails line = IsFailureLine t folder input InputFails FileFails line
-IsTextOf Usage t folder input InputFails FileFails line = ⊥
-IsTextOf WriteFault t folder input InputFails FileFails line = ⊥
-IsTextOf Memory t folder input InputFails FileFails line = ⊥
+IsTextOf Accepted t May InputFails FileFails text = IsReport t May text
+IsTextOf Refused t May InputFails FileFails line = IsStopLine Refused t May line ⊎ IsLargeLine t May line
+IsTextOf NoFile t May InputFails FileFails line = IsStopLine NoFile t May line
+IsTextOf ReadFault t May InputFails FileFails line = IsFailureLine t May InputFails FileFails line
+IsTextOf Usage t May InputFails FileFails line = ⊥
+IsTextOf WriteFault t May InputFails FileFails line = ⊥
+IsTextOf Memory t May InputFails FileFails line = ⊥
 
--- the verdict on a task: its text says how that ended, a missing file was counted, and the last path is its own
-pub record IsTaskVerdict (t : TaskValue) (folder : Option Folder) (input last : Option (List ℕ))
-    (InputFails : Type 0) (FileFails : List ℕ → Type 0) (MissRose : Type 0) (v : Verdict) : Type 0 where
-  pub says : IsTextOf v.status t folder input InputFails FileFails v.text.items
+-- the verdict on a task: its text says how that ended, and a missing file was counted
+pub record IsTaskVerdict (t : TaskValue) (InputFails : Type 0) (FileFails : List ℕ → Type 0) (MissRose : Type 0)
+    (v : Verdict) (May : World → Type 0) : Type 0 where
+  pub says : IsTextOf v.status t May InputFails FileFails v.text.items
   pub missing : v.status ≡ NoFile → MissRose
-  pub at : LastPath t folder last
 
 -- the reply that a status and a text make; an input that failed has none
 abbrev pub IsReplyOf : Status → List ℕ → Reply → Type 0
@@ -337,15 +347,13 @@ IsReplyOf Memory line reply = ⊥
 
 -- ---- the search for a pattern
 
--- a part of a task ended it with this verdict: at a stop that is answered, as far as that is known, or at a path that
--- failed
-pub data HasEnded {A S : Type 0} (known : Option (Result A S)) (status : S → Status) (line : S → List ℕ)
+-- a part of a task ended it with this verdict: at a stop that is answered, or at a path that failed
+pub data HasEnded {A S : Type 0} (Answers : Result A S → Type 0) (status : S → Status) (line : S → List ℕ)
     (Own : S → Type 0) (Failing : List ℕ → Type 0) (MissRose : Type 0) (v : Verdict) : Type 0 where
-  AtStop : (s : S) → IsSaid v (status s) (line s) → IfSome known (λ answer. answer ≡ Err s) → Own s
-      → (status s ≡ NoFile → MissRose)
-      → HasEnded known status line Own Failing MissRose v
+  AtStop : (s : S) → IsSaid v (status s) (line s) → Answers (Err s) → Own s → (status s ≡ NoFile → MissRose)
+      → HasEnded Answers status line Own Failing MissRose v
   AtFailure : (path : List ℕ) → IsSaid v ReadFault (read_fault_line path) → Failing path
-      → HasEnded known status line Own Failing MissRose v
+      → HasEnded Answers status line Own Failing MissRose v
 
 -- an ending by a verdict, where there was memory for it
 abbrev pub ending_of : Result Verdict NoMemory → Ending
@@ -373,36 +381,31 @@ IsWalkVerdict (repos.NoFile path) v = IsSaid v NoFile (required_line (repo.Missi
 IsWalkVerdict (repos.ReadFault path) v = IsSaid v ReadFault (read_fault_line (string_bytes path))
 IsWalkVerdict repos.Memory v = ⊥
 
--- the packages that an input requires, over the files that are known
-abbrev pub required_in : (packages path : List ℕ) → Option Folder → Option (Result (List (List ℕ)) Refusal)
-required_in packages path folder = option_map (λ files. required files limits.theory_bytes packages path) folder
+-- what is required, or the runs of packages, are these in each folder that may be
+abbrev pub AnswersIn : {A : Type 0} → (May : Folder → Type 0) → (Folder → A) → A → Type 0
+AnswersIn May answer result = Every May (λ folder. answer folder ≡ result)
 
--- these are they; an article requires none
-abbrev pub AreRequired : (packages path : List ℕ) → Option Folder → List (List ℕ) → Type 0
-AreRequired packages path folder fulls =
-    ((is_theory path ≡ true) × IfSome (required_in packages path folder) (λ answer. answer ≡ Ok fulls))
-    ⊎ ((is_theory path ≡ false) × (fulls ≡ []))
-
--- the walk over them ended the task
-abbrev pub HasEndedWalk : (packages path : List ℕ) → Option Folder → (FileFails : List ℕ → Type 0)
-    → (MissRose : Type 0) → Verdict → Type 0
-HasEndedWalk packages path folder FileFails =
-    HasEnded (required_in packages path folder) required_status required_line (λ refusal. is_theory path ≡ true)
+-- the walk over what an input requires ended the task
+abbrev pub HasEndedWalk : (packages path : List ℕ) → (FileFails : List ℕ → Type 0) → (MissRose : Type 0) → Verdict
+    → (May : Folder → Type 0) → Type 0
+HasEndedWalk packages path FileFails MissRose v May =
+    HasEnded (AnswersIn May (required_at packages path)) required_status required_line
+    (λ refusal. is_theory path ≡ true)
     (λ file. (is_theory path ≡ true)
-    × IfSome folder (λ files. IsWalked files limits.theory_bytes packages path file) × FileFails file)
+    × Every May (λ folder. IsWalked folder limits.theory_bytes packages path file) × FileFails file)
+    MissRose v
 
 -- the run of the input ended it
-abbrev pub HasEndedInput : (packages path : List ℕ) → Option Folder → (input : Option (List ℕ))
-    → (InputFails : Type 0)
-    → (FileFails : List ℕ → Type 0) → (MissRose : Type 0) → Verdict → Type 0
-HasEndedInput packages path folder input InputFails FileFails =
-    HasEnded (noted_at packages path folder input) stop_status stop_line
-    (IsInputStop path) (IsFailedPath (ShowReadable packages path) folder input InputFails FileFails)
+abbrev pub HasEndedInput : (packages path : List ℕ) → (InputFails : Type 0) → (FileFails : List ℕ → Type 0)
+    → (MissRose : Type 0) → Verdict → (May : World → Type 0) → Type 0
+HasEndedInput packages path InputFails FileFails MissRose v May =
+    HasEnded (IsResult (ShowReadable packages path) May) stop_status stop_line (IsInputStop path)
+    (IsFailedPath (ShowReadable packages path) May InputFails FileFails) MissRose v
 
 -- the pattern ended it
 abbrev pub HasEndedPattern : Noted → (pattern : List ℕ) → Verdict → Type 0
 HasEndedPattern n pattern =
-    HasEnded (Some (at_line 1 (term_read (notation n) pattern))) (λ refused. Refused)
+    HasEnded (λ answer. at_line 1 (term_read (notation n) pattern) ≡ answer) (λ refused. Refused)
     (λ refused. column_line pattern_path refused.line refused.column refused.fault) (λ refused. refused.line ≡ 1)
     (λ file. ⊥)
     ⊥
@@ -412,39 +415,34 @@ pub record IsPattern (n : Noted) (pattern : List ℕ) (p : Tm Name) : Type 0 whe
   pub is_read : term_read (notation n) pattern ≡ Ok p
   pub reads : ReadsAsTerm (notation n) pattern p
 
--- the runs of packages, over the files that are known
-abbrev pub runs_in : (packages : List ℕ) → Option Folder → List (List ℕ) → Option (Result (List PackageRun) Stop)
-runs_in packages folder fulls = option_map (λ files. package_runs packages files fulls) folder
-
--- a file that the run of one of them needs failed, behind the runs of those before it
-pub record IsRunFile (packages : List ℕ) (fulls : List (List ℕ))
-    (folder : Option Folder) (FileFails : List ℕ → Type 0) (file : List ℕ) : Type 0 where
+-- a file that the run of one of these packages needs failed, behind the runs of those before it
+pub record IsRunFile (packages : List ℕ) (fulls : List (List ℕ)) (FileFails : List ℕ → Type 0)
+    (May : Folder → Type 0) (file : List ℕ) : Type 0 where
   pub front : List (List ℕ)
   pub full : List ℕ
   pub back : List (List ℕ)
   pub among : fulls ≡ front ++ full ∷ back
   pub runs : List PackageRun
-  pub runs_are : IfSome (runs_in packages folder front) (λ answer. answer ≡ Ok runs)
-  pub opened : IfSome folder (λ files. IsMember file (theory_run packages (package_path packages full) files).paths)
+  pub runs_are : AnswersIn May (λ folder. package_runs packages folder front) (Ok runs)
+  pub opened : Every May (λ folder. IsMember file (theory_run packages (package_path packages full) folder).paths)
   pub fails : FileFails file
 
 -- the run of one of them ended the task
-abbrev pub HasEndedRuns : (packages : List ℕ) (fulls : List (List ℕ)) → Option Folder → (FileFails : List ℕ → Type 0)
-    → (MissRose : Type 0) → Verdict → Type 0
-HasEndedRuns packages fulls folder FileFails =
-    HasEnded (runs_in packages folder fulls) stop_status stop_line (λ stop. fulls ≢ [])
-    (IsRunFile packages fulls folder FileFails)
+abbrev pub HasEndedRuns : (packages : List ℕ) (fulls : List (List ℕ)) → (FileFails : List ℕ → Type 0)
+    → (MissRose : Type 0) → Verdict → (May : Folder → Type 0) → Type 0
+HasEndedRuns packages fulls FileFails MissRose v May =
+    HasEnded (AnswersIn May (λ folder. package_runs packages folder fulls)) stop_status stop_line
+    (λ stop. fulls ≢ []) (IsRunFile packages fulls FileFails May) MissRose v
 
 -- the run of a package by its full name ended the task
-abbrev pub HasEndedRun : (packages full : List ℕ) → Option Folder → (FileFails : List ℕ → Type 0)
-    → (MissRose : Type 0)
-    → Verdict
-    → Type 0
-HasEndedRun packages full folder FileFails =
-    HasEnded (option_map (λ files. (theory_run packages (package_path packages full) files).answer) folder)
+abbrev pub HasEndedRun : (packages full : List ℕ) → (FileFails : List ℕ → Type 0) → (MissRose : Type 0) → Verdict
+    → (May : Folder → Type 0) → Type 0
+HasEndedRun packages full FileFails MissRose v May =
+    HasEnded (AnswersIn May (λ folder. (theory_run packages (package_path packages full) folder).answer))
     stop_status stop_line (λ stop. Unit {0})
-    (λ file. IfSome folder (λ files. IsMember file (theory_run packages (package_path packages full) files).paths)
+    (λ file. Every May (λ folder. IsMember file (theory_run packages (package_path packages full) folder).paths)
     × FileFails file)
+    MissRose v
 
 -- a search has found these matches, and has this limit
 pub record HasMatches (search : Search) (fs : List Found) : Type 0 where
@@ -452,10 +450,10 @@ pub record HasMatches (search : Search) (fs : List Found) : Type 0 where
   pub max_is : search.max ≡ summary_limit
 
 -- a package was run, its theorems are proved, and those that the pattern matches were added to what was found
-pub record IsSearched (packages full : List ℕ) (folder : Option Folder) (pattern : Tm Name) (old new : Search) : Type
+pub record IsSearched (packages full : List ℕ) (pattern : Tm Name) (old new : Search) (May : Folder → Type 0) : Type
     0 where
   pub ran : Ran
-  pub ran_is : IfSome folder (λ files. (theory_run packages (package_path packages full) files).answer ≡ Ok ran)
+  pub ran_is : AnswersIn May (λ folder. (theory_run packages (package_path packages full) folder).answer) (Ok ran)
   pub proved : IsProved (run_lists ran)
   pub found_more : (fs : List Found) → HasMatches old fs
       → HasMatches new (fs ++ matches_in pattern full (exports_of ran))
@@ -465,29 +463,100 @@ abbrev pub source_of : PackageRun → Source
 source_of p = record { name = p.name; exports = exports_of p.ran }
 
 -- the packages were run, their theorems are proved, and those that the pattern matches were added to what was found
-pub record AreSearched (packages : List ℕ) (fulls : List (List ℕ))
-    (folder : Option Folder) (pattern : Tm Name) (old new : Search) : Type 0 where
+pub record AreSearched (packages : List ℕ) (fulls : List (List ℕ)) (pattern : Tm Name) (old new : Search)
+    (May : Folder → Type 0) : Type 0 where
   pub runs : List PackageRun
-  pub runs_are : IfSome (runs_in packages folder fulls) (λ answer. answer ≡ Ok runs)
+  pub runs_are : AnswersIn May (λ folder. package_runs packages folder fulls) (Ok runs)
   pub each : map (λ p. p.name) runs ≡ fulls
   pub proved : All (λ p. IsProved (run_lists p.ran)) runs
   pub found_more : (fs : List Found) → HasMatches old fs → HasMatches new (fs ++ matches pattern (map source_of runs))
 
+-- the folders of worlds
+abbrev pub folders_of : (May : World → Type 0) → Folder → Type 0
+folders_of May folder = (input : List ℕ) × May (record { folder = folder; input = input })
+
+-- behind the run of the input its pattern, or the runs of the packages, ended the task
+pub data HasEndedBehind (packages pattern : List ℕ) (n : Noted) (fulls : List (List ℕ)) (FileFails : List ℕ → Type 0)
+    (MissRose : Type 0) (v : Verdict) (May : Folder → Type 0) : Type 0 where
+  AtPattern : HasEndedPattern n pattern v → HasEndedBehind packages pattern n fulls FileFails MissRose v May
+  AtRuns : (p : Tm Name) → IsPattern n pattern p → HasEndedRuns packages fulls FileFails MissRose v May
+      → HasEndedBehind packages pattern n fulls FileFails MissRose v May
+
+-- what was searched
+abbrev pub searched_of : Noted → Tm Name → List PackageRun → Searched
+searched_of n p runs = record { noted = n; pattern = p; packages = runs }
+
+-- or the pattern was read, and the packages and the run of the input were searched for it
+pub record HasSearchedBehind (packages pattern path : List ℕ) (n : Noted) (fulls : List (List ℕ)) (search : Search)
+    (May : Folder → Type 0) : Type 0 where
+  pub term : Tm Name
+  pub is_pattern : IsPattern n pattern term
+  pub runs : List PackageRun
+  pub runs_are : AnswersIn May (λ folder. package_runs packages folder fulls) (Ok runs)
+  pub each : map (λ p. p.name) runs ≡ fulls
+  pub proved : IsProved (run_lists n.ran)
+  pub all_proved : All (λ p. IsProved (run_lists p.ran)) runs
+  pub matches_are : let made = searched_of n term runs in
+      AreMatches term (all_exports (sources path made)) (found path made)
+  pub found : HasMatches search (found path (searched_of n term runs))
+
 -- a search ended with matches
-pub record HasSearched (packages pattern path : List ℕ) (folder : Option Folder)
-    (input : Option (List ℕ)) (search : Search) : Type 0 where
+pub record HasSearched (packages pattern path : List ℕ) (search : Search) (May : World → Type 0) : Type 0 where
   pub made : Searched
-  pub ended : IfSome (find_at packages pattern path folder input) (λ answer. answer ≡ Ok made)
+  pub ended : IsResult (FindPattern packages pattern path) May (Ok made)
   pub proved : IsProved (run_lists made.noted.ran)
   pub promised : IsSearch pattern path made
   pub found : HasMatches search (found path made)
 
 -- a search ended at a stop or a failure
-abbrev pub HasEndedSearch : (packages pattern path : List ℕ) → Option Folder → (input : Option (List ℕ))
-    → (InputFails : Type 0) → (FileFails : List ℕ → Type 0) → (MissRose : Type 0) → Verdict → Type 0
-HasEndedSearch packages pattern path folder input InputFails FileFails =
-    HasEnded (find_at packages pattern path folder input) find_status find_line
-    (IsFindStop path) (IsFailedPath (FindPattern packages pattern path) folder input InputFails FileFails)
+abbrev pub HasEndedSearch : (packages pattern path : List ℕ) → (InputFails : Type 0) → (FileFails : List ℕ → Type 0)
+    → (MissRose : Type 0) → Verdict → (May : World → Type 0) → Type 0
+HasEndedSearch packages pattern path InputFails FileFails MissRose v May =
+    HasEnded (IsResult (FindPattern packages pattern path) May) find_status find_line (IsFindStop path)
+    (IsFailedPath (FindPattern packages pattern path) May InputFails FileFails) MissRose v
+
+-- ---- what the parts of a search answer
+
+-- the full names that an input requires
+pub record EndsWalk (packages path : List ℕ) (result : Result (Vec (String Global) Global) Ending)
+    (FileFails : List ℕ → Type 0) (MissRose : Type 0) (May : Folder → Type 0) : Type 0 where
+  pub ended : IfErr result (IfEnded (λ v. HasEndedWalk packages path FileFails MissRose v May))
+  pub found : IfOk result (λ fulls. AnswersIn May (required_at packages path) (Ok (names_of fulls)))
+
+-- the run of the input
+pub record EndsInput (packages path : List ℕ) (s : Session) (result : Result NotedRun Ending) (InputFails : Type 0)
+    (FileFails : List ℕ → Type 0) (MissRose : Type 0) (May : World → Type 0) : Type 0 where
+  pub ended : IfErr result (IfEnded (λ v. HasEndedInput packages path InputFails FileFails MissRose v May))
+  pub ran : IfOk result (λ run. IsResult (ShowReadable packages path) May (Ok (noted_of s run)))
+
+-- the run of a package
+pub record EndsRun (packages full : List ℕ) (pattern : Tm Name) (old new : Search)
+    (result : Result (Unit {0}) Ending) (FileFails : List ℕ → Type 0) (MissRose : Type 0)
+    (May : Folder → Type 0) : Type 0 where
+  pub ended : IfErr result (IfEnded (λ v. HasEndedRun packages full FileFails MissRose v May))
+  pub searched : OnOk result (IsSearched packages full pattern old new May)
+
+-- the runs of packages
+pub record EndsRuns (packages : List ℕ) (fulls : List (List ℕ)) (pattern : Tm Name) (old new : Search)
+    (result : Result (Unit {0}) Ending) (FileFails : List ℕ → Type 0) (MissRose : Type 0)
+    (May : Folder → Type 0) : Type 0 where
+  pub ended : IfErr result (IfEnded (λ v. HasEndedRuns packages fulls FileFails MissRose v May))
+  pub searched : OnOk result (AreSearched packages fulls pattern old new May)
+
+-- the search behind the run of the input
+pub record EndsBehind (packages pattern path : List ℕ) (n : Noted) (fulls : List (List ℕ))
+    (result : Result Search Ending) (FileFails : List ℕ → Type 0) (MissRose : Type 0)
+    (May : Folder → Type 0) : Type 0 where
+  pub ended : IfErr result
+      (IfEnded (λ v. HasEndedBehind packages pattern n fulls FileFails MissRose v May))
+  pub searched : IfOk result (λ search. HasSearchedBehind packages pattern path n fulls search May)
+
+-- the whole search
+pub record EndsSearch (packages pattern path : List ℕ) (result : Result Search Ending) (InputFails : Type 0)
+    (FileFails : List ℕ → Type 0) (MissRose : Type 0) (May : World → Type 0) : Type 0 where
+  pub ended : IfErr result
+      (IfEnded (λ v. HasEndedSearch packages pattern path InputFails FileFails MissRose v May))
+  pub searched : IfOk result (λ search. HasSearched packages pattern path search May)
 
 -- the text of matches is printed
 abbrev pub FoundEndsAs : (path : List ℕ) → List Found → Verdict → Type 0

@@ -1,6 +1,6 @@
 //! The search for a pattern among the exports of an input and of the packages that it requires.
-ghost use Rattle.std.specs.Prelude.{◌≡◌, ◌⊎◌, ◌++◌, ℕ, List, [], Option, Ok, true};
-ghost use Rattle.std.specs.Prelude.{map, string_bytes, IfOk, IfErr, IfSome, OnOk};
+ghost use Rattle.std.specs.Prelude.{◌≡◌, ◌⊎◌, ◌++◌, List, [], true};
+ghost use Rattle.std.specs.Prelude.{map, string_bytes, IfOk, IfErr, OnOk};
 ghost use Rattle.std.specs.List.{All};
 ghost use Rattle.ot_logic.specs.PlainTrees.{term_of_tree};
 ghost use Rattle.ot_io.specs.Causes.{CountRose};
@@ -12,13 +12,13 @@ ghost use Rattle.ot_machine.specs.States.{fresh_run};
 ghost use Rattle.ot_find.specs.Matches.{Found, matches_in};
 ghost use Rattle.ot_repo.specs.Answers.{ArePackages, names_of};
 ghost use Rattle.ot_print.specs.Laws.{TextsNameOne};
-ghost use Rattle.ot_program.specs.Reply.{FindPattern, exports_of, noted_at, run_lists, pattern_path};
+ghost use Rattle.ot_program.specs.World.{HasReadWorld, HasReadFolder, EachTold};
+ghost use Rattle.ot_program.specs.Reply.{FindPattern, exports_of, run_lists, pattern_path, is_standard};
 ghost use Rattle.ot_program.specs.Texts.{column_line};
 ghost use Rattle.ot_program.specs.Answer.{FileFailed, IsProved, LeavesOther, LastInput, ClosesFiles};
-ghost use Rattle.ot_program.specs.Verdicts.{noted_of, ran_from, ending_of, IfEnded, AreRequired, AreSearched};
-ghost use Rattle.ot_program.specs.Verdicts.{FoundEndsAs, HasMatches, HasSearched, IsPattern, IsSaid};
-ghost use Rattle.ot_program.specs.Verdicts.{IsWalkVerdict, HasEndedWalk, HasEndedInput, HasEndedPattern};
-ghost use Rattle.ot_program.specs.Verdicts.{HasEndedRun, HasEndedRuns, HasEndedSearch, IsSearched, IsTaskVerdict};
+ghost use Rattle.ot_program.specs.Verdicts.{noted_of, ran_from, ending_of, IfEnded, EndsSearch, EndsBehind};
+ghost use Rattle.ot_program.specs.Verdicts.{FoundEndsAs, HasMatches, IsPattern, IsSaid, IsWalkVerdict};
+ghost use Rattle.ot_program.specs.Verdicts.{HasEndedPattern, EndsWalk, EndsInput, EndsRun, EndsRuns, IsTaskVerdict};
 
 use crate::input::run_theory;
 use crate::noted::{NotedRun, run_noted};
@@ -91,12 +91,14 @@ pub fn run_finding<F: Files, S: Source>(
     files: &mut F,
     input: &mut S,
 ) -> Result<Verdict, Memory>
-    ensures verdict { IfOk result (IsTaskVerdict
+    ensures verdict { EachTold (is_standard query.entry.path.now ≡ true) (F.folder files.old)
+        (λ told. HasReadWorld told (S.left input.old) (S.left input.new)
+        (λ May. IfOk result (λ v. IsTaskVerdict
         (FindPattern query.entry.packages.now query.entry.pattern.now query.entry.path.now)
-        (F.folder files.old) (S.left input.old) (F.at files.new)
         (CountRose (S.faults input.old) (S.faults input.new))
         (FileFailed (F.at files.new) (F.faults files.old) (F.faults files.new))
-        (CountRose (F.misses files.old) (F.misses files.new))) }
+        (CountRose (F.misses files.old) (F.misses files.new)) v May))) }
+    ensures at { IfOk result (λ _. LastInput query.entry.path.now (F.folder files.old) (F.at files.new)) }
     ensures files { ClosesFiles F.folder F.faults F.misses F.left files.old files.new }
     ensures source { KeepsSource S.folder S.faults S.misses S.at input.old input.new }
     ensures other { LeavesOther query.entry.path.now files.old files.new input.old input.new }
@@ -108,19 +110,46 @@ pub fn run_finding<F: Files, S: Source>(
     }
 }
 
-/// The search, with all matches.
+/// The search over an input, with all matches.
 fn searched<F: Files, S: Source>(
     alloc: Global,
     query: Query<'_>,
     files: &mut F,
     input: &mut S,
 ) -> Result<Search, Ending>
-    ensures ended { IfErr result (IfEnded (HasEndedSearch query.entry.packages.now query.entry.pattern.now query.entry.path.now
-        (F.folder files.old) (S.left input.old) (CountRose (S.faults input.old) (S.faults input.new))
+    ensures searched { EachTold (is_standard query.entry.path.now ≡ true) (F.folder files.old)
+        (λ told. HasReadWorld told (S.left input.old) (S.left input.new)
+        (EndsSearch query.entry.packages.now query.entry.pattern.now query.entry.path.now result
+        (CountRose (S.faults input.old) (S.faults input.new))
         (FileFailed (F.at files.new) (F.faults files.old) (F.faults files.new))
         (CountRose (F.misses files.old) (F.misses files.new)))) }
-    ensures searched { IfOk result (HasSearched query.entry.packages.now query.entry.pattern.now
-        query.entry.path.now (F.folder files.old) (S.left input.old)) }
+    ensures files { ClosesFiles F.folder F.faults F.misses F.left files.old files.new }
+    ensures source { KeepsSource S.folder S.faults S.misses S.at input.old input.new }
+    ensures other { LeavesOther query.entry.path.now files.old files.new input.old input.new }
+    ensures at { OnOk result (LastInput query.entry.path.now (F.folder files.old) (F.at files.new)) }
+    ensures last { IfErr result
+        (IfEnded (λ v. LastInput query.entry.path.now (F.folder files.old) (F.at files.new))) }
+{
+    let mut session = Session::new(alloc)?;
+    search_in(alloc, query, &mut session, files, input)
+}
+
+/// The search over an input, which is run in a fresh session.
+fn search_in<F: Files, S: Source>(
+    alloc: Global,
+    query: Query<'_>,
+    session: &mut Session,
+    files: &mut F,
+    input: &mut S,
+) -> Result<Search, Ending>
+    requires session { IsRun session.old }
+    requires fresh { run_of session.old ≡ fresh_run }
+    ensures searched { EachTold (is_standard query.entry.path.now ≡ true) (F.folder files.old)
+        (λ told. HasReadWorld told (S.left input.old) (S.left input.new)
+        (EndsSearch query.entry.packages.now query.entry.pattern.now query.entry.path.now result
+        (CountRose (S.faults input.old) (S.faults input.new))
+        (FileFailed (F.at files.new) (F.faults files.old) (F.faults files.new))
+        (CountRose (F.misses files.old) (F.misses files.new)))) }
     ensures files { ClosesFiles F.folder F.faults F.misses F.left files.old files.new }
     ensures source { KeepsSource S.folder S.faults S.misses S.at input.old input.new }
     ensures other { LeavesOther query.entry.path.now files.old files.new input.old input.new }
@@ -129,38 +158,8 @@ fn searched<F: Files, S: Source>(
         (IfEnded (λ v. LastInput query.entry.path.now (F.folder files.old) (F.at files.new))) }
 {
     let fulls = required_packages(alloc, query.packages, query.path, files)?;
-    let mut session = Session::new(alloc)?;
-    search_input(alloc, query, &fulls, &mut session, files, input)
-}
-
-/// The search over an input in a fresh session, and over these packages, which it requires.
-fn search_input<F: Files, S: Source>(
-    alloc: Global,
-    query: Query<'_>,
-    fulls: &[String],
-    session: &mut Session,
-    files: &mut F,
-    input: &mut S,
-) -> Result<Search, Ending>
-    requires required { AreRequired query.packages.now query.path.now (F.folder files.old) (map string_bytes fulls.now) }
-    requires full { ArePackages (map string_bytes fulls.now) }
-    requires session { IsRun session.old }
-    requires fresh { run_of session.old ≡ fresh_run }
-    ensures ended { IfErr result (IfEnded (HasEndedSearch query.entry.packages.now query.entry.pattern.now query.entry.path.now
-        (F.folder files.old) (S.left input.old) (CountRose (S.faults input.old) (S.faults input.new))
-        (FileFailed (F.at files.new) (F.faults files.old) (F.faults files.new))
-        (CountRose (F.misses files.old) (F.misses files.new)))) }
-    ensures searched { IfOk result (HasSearched query.entry.packages.now query.entry.pattern.now
-        query.entry.path.now (F.folder files.old) (S.left input.old)) }
-    ensures files { ClosesFiles F.folder F.faults F.misses F.left files.old files.new }
-    ensures source { KeepsSource S.folder S.faults S.misses S.at input.old input.new }
-    ensures other { LeavesOther query.entry.path.now files.old files.new input.old input.new }
-    ensures at { OnOk result (LastInput query.entry.path.now (F.folder files.old) (F.at files.new)) }
-    ensures last { IfErr result
-        (IfEnded (λ v. LastInput query.entry.path.now (F.folder files.old) (F.at files.new))) }
-{
     let noted = input_run(alloc, session, query.packages, query.path, files, input)?;
-    search_run(alloc, query, fulls, session, &noted, files)
+    search_run(alloc, query, &fulls, session, &noted, files)
 }
 
 /// The search over the run of an input, and over these packages, which it requires.
@@ -175,20 +174,11 @@ fn search_run<F: Files>(
     requires full { ArePackages (map string_bytes fulls.now) }
     requires session { IsRun session.now }
     requires exports { All (IsExportIn session.now) run.now.exports.items }
-    ensures ended { (input : Option (List ℕ)) (i j : ℕ)
-        → AreRequired query.entry.packages.now query.entry.path.now (F.folder files.old) (map string_bytes fulls.now)
-        → IfSome (noted_at query.entry.packages.now query.entry.path.now (F.folder files.old) input)
-        (λ answer. answer ≡ Ok (noted_of session.now run.now))
-        → IfErr result (IfEnded (HasEndedSearch query.entry.packages.now query.entry.pattern.now
-        query.entry.path.now (F.folder files.old) input (CountRose i j)
+    ensures searched { EachTold (map string_bytes fulls.now ≡ []) (F.folder files.old) (λ told. HasReadFolder told
+        (EndsBehind query.entry.packages.now query.entry.pattern.now query.entry.path.now
+        (noted_of session.now run.now) (map string_bytes fulls.now) result
         (FileFailed (F.at files.new) (F.faults files.old) (F.faults files.new))
         (CountRose (F.misses files.old) (F.misses files.new)))) }
-    ensures searched { (input : Option (List ℕ))
-        → AreRequired query.entry.packages.now query.entry.path.now (F.folder files.old) (map string_bytes fulls.now)
-        → IfSome (noted_at query.entry.packages.now query.entry.path.now (F.folder files.old) input)
-        (λ answer. answer ≡ Ok (noted_of session.now run.now))
-        → IfOk result (HasSearched query.entry.packages.now
-        query.entry.pattern.now query.entry.path.now (F.folder files.old) input) }
     ensures files { ClosesFiles F.folder F.faults F.misses F.left files.old files.new }
     ensures none { map string_bytes fulls.now ≡ [] → files.new ≡ files.old }
 {
@@ -207,10 +197,12 @@ fn required_packages<F: Files>(
     path: &str,
     files: &mut F,
 ) -> Result<Vec<String>, Ending>
-    ensures ended { IfErr result (IfEnded (HasEndedWalk packages.now path.now (F.folder files.old)
+    ensures required { EachTold (is_standard path.now ≡ true) (F.folder files.old)
+        (λ told. HasReadFolder told (EndsWalk packages.now path.now result
         (FileFailed (F.at files.new) (F.faults files.old) (F.faults files.new))
         (CountRose (F.misses files.old) (F.misses files.new)))) }
-    ensures required { IfOk result (λ fulls. AreRequired packages.now path.now (F.folder files.old) (names_of fulls)) }
+    ensures theory { IfErr result (IfEnded (λ v. is_theory path.now ≡ true)) }
+    ensures article { IfOk result (λ fulls. (is_theory path.now ≡ true) ⊎ (names_of fulls ≡ [])) }
     ensures full { IfOk result (λ fulls. ArePackages (names_of fulls)) }
     ensures files { ClosesFiles F.folder F.faults F.misses F.left files.old files.new }
     ensures other { (is_theory path.now ≡ true) ⊎ (files.new ≡ files.old) }
@@ -277,12 +269,12 @@ fn input_run<F: Files, S: Source>(
 ) -> Result<NotedRun, Ending>
     requires session { IsRun session.old }
     requires fresh { run_of session.old ≡ fresh_run }
-    ensures ended { IfErr result (IfEnded (HasEndedInput packages.now
-        path.now (F.folder files.old) (S.left input.old) (CountRose (S.faults input.old) (S.faults input.new))
+    ensures ran { EachTold (is_standard path.now ≡ true) (F.folder files.old)
+        (λ told. HasReadWorld told (S.left input.old) (S.left input.new)
+        (EndsInput packages.now path.now session.new result
+        (CountRose (S.faults input.old) (S.faults input.new))
         (FileFailed (F.at files.new) (F.faults files.old) (F.faults files.new))
         (CountRose (F.misses files.old) (F.misses files.new)))) }
-    ensures ran { IfOk result (λ run. IfSome (noted_at packages.now path.now (F.folder files.old) (S.left input.old))
-        (λ answer. answer ≡ Ok (noted_of session.new run))) }
     ensures session { IsRun session.new }
     ensures exports { IfOk result (λ run. All (IsExportIn session.new) run.exports.items) }
     ensures files { ClosesFiles F.folder F.faults F.misses F.left files.old files.new }
@@ -339,12 +331,11 @@ fn search_packages<F: Files>(
     search: &mut Search,
 ) -> Result<(), Ending>
     requires full { ArePackages (map string_bytes fulls.now) }
-    ensures ended { IfErr result (IfEnded (HasEndedRuns packages.now
-        (map string_bytes fulls.now) (F.folder files.old)
+    ensures searched { EachTold (map string_bytes fulls.now ≡ []) (F.folder files.old)
+        (λ told. HasReadFolder told (EndsRuns packages.now
+        (map string_bytes fulls.now) (term_of_tree pattern.now) search.old search.new result
         (FileFailed (F.at files.new) (F.faults files.old) (F.faults files.new))
         (CountRose (F.misses files.old) (F.misses files.new)))) }
-    ensures searched { OnOk result (AreSearched packages.now (map string_bytes fulls.now)
-        (F.folder files.old) (term_of_tree pattern.now) search.old search.new) }
     ensures files { ClosesFiles F.folder F.faults F.misses F.left files.old files.new }
     ensures none { map string_bytes fulls.now ≡ [] → files.new ≡ files.old }
 {
@@ -365,11 +356,10 @@ fn search_package<F: Files>(
     search: &mut Search,
 ) -> Result<(), Ending>
     requires { is_package full.now ≡ true }
-    ensures ended { IfErr result (IfEnded (HasEndedRun packages.now full.now (F.folder files.old)
+    ensures searched { HasReadFolder (F.folder files.old) (EndsRun packages.now full.now
+        (term_of_tree pattern.now) search.old search.new result
         (FileFailed (F.at files.new) (F.faults files.old) (F.faults files.new))
-        (CountRose (F.misses files.old) (F.misses files.new)))) }
-    ensures searched { OnOk result (IsSearched packages.now full.now
-        (F.folder files.old) (term_of_tree pattern.now) search.old search.new) }
+        (CountRose (F.misses files.old) (F.misses files.new))) }
     ensures files { ClosesFiles F.folder F.faults F.misses F.left files.old files.new }
 {
     let path = package_path(alloc, packages, full.as_bytes())?;

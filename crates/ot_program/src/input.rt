@@ -1,15 +1,18 @@
-ghost use Rattle.std.specs.Prelude.{◌≡◌, [], Some, IfOk, IfErr, IfSome, string_bytes};
+ghost use Rattle.std.specs.Prelude.{◌≡◌, [], Some, IsOk, IfOk, IfErr, IfSome, string_bytes, true};
 ghost use Rattle.ot_io.specs.Causes.{CountRose};
 ghost use Rattle.ot_io.specs.Folder.{path_asked};
 ghost use Rattle.ot_io.specs.Keeping.{KeepsSource};
+ghost use Rattle.ot_io.specs.Reading.{HasRead};
+ghost use Rattle.ot_io.specs.Readings.{HasReadFiles};
 ghost use Rattle.ot_link.specs.Blocks.{article_end};
 ghost use Rattle.ot_link.specs.Answers.{AreExportsIn, NamesSymbolIn};
 ghost use Rattle.ot_machine.specs.States.{fresh_run};
 ghost use Rattle.ot_machine.specs.Meaning.{run_of, IsRun};
-ghost use Rattle.ot_program.specs.Reply.{outcome, article_run, theory_run};
+ghost use Rattle.ot_program.specs.World.{HasReadWorld, HasReadFolder, EachTold};
+ghost use Rattle.ot_program.specs.Reply.{outcome, article_run, is_standard};
 ghost use Rattle.ot_program.specs.Answer.{FileFailed, LeavesOther, LastPath, ClosesFiles};
-ghost use Rattle.ot_program.specs.Verdicts.{job_task, end_of, IsAnswer, IsEnd};
-ghost use Rattle.ot_program.specs.Verdicts.{HasTaskCause, HasOwnCause, HasTheoryCause, IsLawfulEnd};
+ghost use Rattle.ot_program.specs.Verdicts.{job_task, end_of, IsAnswer};
+ghost use Rattle.ot_program.specs.Verdicts.{HasTaskEnd, HasOwnCause, HasTheoryEnd, IsLawfulEnd};
 
 use crate::task::Job;
 use ot_args::is_theory;
@@ -33,17 +36,16 @@ pub fn run_input<F: Files, S: Source>(
 ) -> Result<Vec<Export>, LinkFault>
     requires session { IsRun session.old }
     requires fresh { run_of session.old ≡ fresh_run }
-    ensures end { IfSome (end_of session.new result)
-        (IsEnd (job_task job.entry) (F.folder files.old) (S.left input.old)) }
+    ensures ran { EachTold (is_standard job.entry.path.now ≡ true) (F.folder files.old)
+        (λ told. HasReadWorld told (S.left input.old) (S.left input.new)
+        (λ May. IfSome (end_of session.new result) (λ e. HasTaskEnd (job_task job.entry)
+        (CountRose (S.faults input.old) (S.faults input.new))
+        (FileFailed (F.at files.new) (F.faults files.old) (F.faults files.new))
+        (CountRose (F.misses files.old) (F.misses files.new)) e May))) }
     ensures session { IsRun session.new }
     ensures exports { IfOk result (AreExportsIn session.new) }
     ensures lawful { IfOk result (IsLawfulEnd session.new) }
     ensures symbols { IfErr result (NamesSymbolIn session.new.kernel) }
-    ensures cause { IfSome (end_of session.new result)
-        (HasTaskCause (job_task job.entry) (F.folder files.old) (S.left input.old)
-        (CountRose (S.faults input.old) (S.faults input.new))
-        (FileFailed (F.at files.new) (F.faults files.old) (F.faults files.new))
-        (CountRose (F.misses files.old) (F.misses files.new))) }
     ensures files { ClosesFiles F.folder F.faults F.misses F.left files.old files.new }
     ensures source { KeepsSource S.folder S.faults S.misses S.at input.old input.new }
     ensures other { LeavesOther job.entry.path.now files.old files.new input.old input.new }
@@ -69,8 +71,8 @@ fn run_standard<S: Source>(
 ) -> Result<Vec<Export>, LinkFault>
     requires session { IsRun session.old }
     requires fresh { run_of session.old ≡ fresh_run }
-    ensures end { IfSome (S.left input.old) (λ bytes. IfSome (end_of session.new result)
-        (IsAnswer (article_end path.now (outcome bytes)))) }
+    ensures ran { HasRead (S.left input.old) (S.left input.new) (IsOk result) (λ bytes rest.
+        IfSome (end_of session.new result) (IsAnswer (article_end path.now (outcome bytes)))) }
     ensures session { IsRun session.new }
     ensures exports { IfOk result (AreExportsIn session.new) }
     ensures lawful { IfOk result (IsLawfulEnd session.new) }
@@ -93,16 +95,14 @@ pub fn run_theory<F: Files>(
 ) -> Result<Vec<Export>, LinkFault>
     requires session { IsRun session.old }
     requires fresh { run_of session.old ≡ fresh_run }
-    ensures end { IfSome (F.folder files.old) (λ folder. IfSome (end_of session.new result)
-        (IsAnswer (theory_run packages.now path.now folder).answer)) }
+    ensures ran { HasReadFolder (F.folder files.old) (λ May. IfSome (end_of session.new result)
+        (λ e. HasTheoryEnd packages.now path.now
+        (FileFailed (F.at files.new) (F.faults files.old) (F.faults files.new))
+        (CountRose (F.misses files.old) (F.misses files.new)) e May)) }
     ensures session { IsRun session.new }
     ensures exports { IfOk result (AreExportsIn session.new) }
     ensures lawful { IfOk result (IsLawfulEnd session.new) }
     ensures symbols { IfErr result (NamesSymbolIn session.new.kernel) }
-    ensures cause { IfSome (end_of session.new result)
-        (HasTheoryCause packages.now path.now (F.folder files.old)
-        (FileFailed (F.at files.new) (F.faults files.old) (F.faults files.new))
-        (CountRose (F.misses files.old) (F.misses files.new))) }
     ensures files { ClosesFiles F.folder F.faults F.misses F.left files.old files.new }
     ensures closed { F.left files.new ≡ Some [] }
 {
@@ -119,8 +119,8 @@ fn run_file<F: Files>(
 ) -> Result<Vec<Export>, LinkFault>
     requires session { IsRun session.old }
     requires fresh { run_of session.old ≡ fresh_run }
-    ensures end { IfSome (F.folder files.old) (λ folder. IfSome
-        (end_of session.new result) (IsAnswer (article_run path.now folder).answer)) }
+    ensures ran { HasReadFiles (F.folder files.old) (λ folder.
+        IfSome (end_of session.new result) (IsAnswer (article_run path.now folder).answer)) }
     ensures session { IsRun session.new }
     ensures exports { IfOk result (AreExportsIn session.new) }
     ensures lawful { IfOk result (IsLawfulEnd session.new) }
@@ -153,8 +153,8 @@ pub fn run_article<S: Source>(
 ) -> Result<Vec<Export>, LinkFault>
     requires session { IsRun session.old }
     requires fresh { run_of session.old ≡ fresh_run }
-    ensures end { IfSome (S.left source.old) (λ bytes. IfSome (end_of session.new result)
-        (IsAnswer (article_end (string_bytes path) (outcome bytes)))) }
+    ensures ran { HasRead (S.left source.old) (S.left source.new) (IsOk result) (λ bytes rest.
+        IfSome (end_of session.new result) (IsAnswer (article_end (string_bytes path) (outcome bytes)))) }
     ensures session { IsRun session.new }
     ensures exports { IfOk result (AreExportsIn session.new) }
     ensures lawful { IfOk result (IsLawfulEnd session.new) }

@@ -1,12 +1,15 @@
 //! The check of the log of a path.
-ghost use Rattle.std.specs.Prelude.{◌≡◌, ℕ, List, IfOk, IfSome};
+ghost use Rattle.std.specs.Prelude.{◌≡◌, ℕ, List, IsOk, IfOk, IfSome, true};
 ghost use Rattle.ot_io.specs.Causes.{CountRose};
 ghost use Rattle.ot_io.specs.Folder.{path_asked};
 ghost use Rattle.ot_io.specs.Keeping.{KeepsSource};
+ghost use Rattle.ot_io.specs.Reading.{HasRead};
+ghost use Rattle.ot_io.specs.Readings.{HasReadFiles};
 ghost use Rattle.ot_verify.specs.Verifying.{AreProved};
-ghost use Rattle.ot_program.specs.Reply.{CheckLog, check_bytes, check_file, log_status};
+ghost use Rattle.ot_program.specs.World.{HasReadWorld, EachTold};
+ghost use Rattle.ot_program.specs.Reply.{CheckLog, check_bytes, check_file, log_status, is_standard};
 ghost use Rattle.ot_program.specs.Answer.{FileFailed, LeavesOther, LastPath, ClosesFiles};
-ghost use Rattle.ot_program.specs.Verdicts.{log_end_of, IsAnswer, IsEnd, HasCause, HasTaskCause};
+ghost use Rattle.ot_program.specs.Verdicts.{log_end_of, IsAnswer, HasCause, HasTaskEnd};
 
 use crate::input::STANDARD;
 use ot_io::{Files, OpenFault, Source};
@@ -34,13 +37,13 @@ pub fn check_log<F: Files, S: Source>(
     files: &mut F,
     input: &mut S,
 ) -> Result<Verified, LogRefusal>
-    ensures end { IfSome (log_end_of path.now result)
-        (IsEnd (CheckLog path.now) (F.folder files.old) (S.left input.old)) }
-    ensures proved { IfOk result AreProved }
-    ensures cause { IfSome (log_end_of path.now result) (HasTaskCause (CheckLog path.now) (F.folder files.old) (S.left input.old)
+    ensures checked { EachTold (is_standard path.now ≡ true) (F.folder files.old)
+        (λ told. HasReadWorld told (S.left input.old) (S.left input.new)
+        (λ May. IfSome (log_end_of path.now result) (λ e. HasTaskEnd (CheckLog path.now)
         (CountRose (S.faults input.old) (S.faults input.new))
         (FileFailed (F.at files.new) (F.faults files.old) (F.faults files.new))
-        (CountRose (F.misses files.old) (F.misses files.new))) }
+        (CountRose (F.misses files.old) (F.misses files.new)) e May))) }
+    ensures proved { IfOk result AreProved }
     ensures files { ClosesFiles F.folder F.faults F.misses F.left files.old files.new }
     ensures source { KeepsSource S.folder S.faults S.misses S.at input.old input.new }
     ensures other { LeavesOther path.now files.old files.new input.old input.new }
@@ -56,7 +59,7 @@ pub fn check_log<F: Files, S: Source>(
 
 /// Opens the file of a path, checks its log and closes it.
 fn check_file<F: Files>(alloc: Global, path: &str, files: &mut F) -> Result<Verified, LogRefusal>
-    ensures end { IfSome (F.folder files.old) (λ folder.
+    ensures checked { HasReadFiles (F.folder files.old) (λ folder.
         IfSome (log_end_of path.now result) (IsAnswer (check_file path.now folder))) }
     ensures proved { IfOk result AreProved }
     ensures cause { IfSome (log_end_of path.now result)
@@ -78,8 +81,8 @@ fn check_file<F: Files>(alloc: Global, path: &str, files: &mut F) -> Result<Veri
 
 /// Checks the log that a source has left, whatever its path.
 fn check_source<S: Source>(alloc: Global, source: &mut S) -> Result<Verified, LogRefusal>
-    ensures end { (path : List ℕ)
-        → IfSome (S.left source.old) (λ bytes. IfSome (log_end_of path result) (IsAnswer (check_bytes bytes))) }
+    ensures checked { HasRead (S.left source.old) (S.left source.new) (IsOk result) (λ bytes rest.
+        (path : List ℕ) → IfSome (log_end_of path result) (IsAnswer (check_bytes bytes))) }
     ensures proved { IfOk result AreProved }
     ensures cause { (path : List ℕ)
         → IfSome (log_end_of path result) (HasCause log_status (λ stop. Unit {0})

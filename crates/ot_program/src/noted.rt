@@ -3,14 +3,16 @@ ghost use Rattle.std.specs.Prelude.{◌≡◌, ◌⊎◌, true, IfOk, IfErr, IfS
 ghost use Rattle.std.specs.List.{All};
 ghost use Rattle.ot_io.specs.Causes.{CountRose};
 ghost use Rattle.ot_io.specs.Keeping.{KeepsSource};
+ghost use Rattle.ot_io.specs.Readings.{HasReadFiles};
 ghost use Rattle.ot_kernel.specs.State.{State};
 ghost use Rattle.ot_link.specs.Answers.{NamesSymbolIn, Comes, HasCause as HasLinkCause};
 ghost use Rattle.ot_machine.specs.Meaning.{run_of, IsRun, IsExportIn};
 ghost use Rattle.ot_machine.specs.States.{fresh_run};
 ghost use Rattle.ot_args.specs.Grammar.{is_theory};
-ghost use Rattle.ot_program.specs.Reply.{ShowReadable, shown_at};
+ghost use Rattle.ot_program.specs.World.{HasReadWorld, EachTold};
+ghost use Rattle.ot_program.specs.Reply.{ShowReadable, shown_at, is_standard};
 ghost use Rattle.ot_program.specs.Answer.{FileFailed, LeavesOther, LastInput, ClosesFiles};
-ghost use Rattle.ot_program.specs.Verdicts.{noted_end_of, IsEnd, HasTaskCause, IsLawfulEnds};
+ghost use Rattle.ot_program.specs.Verdicts.{noted_end_of, HasTaskEnd, IsLawfulEnds};
 
 use crate::input::run_input;
 use crate::task::{Job, View};
@@ -39,17 +41,16 @@ pub fn run_noted<F: Files, S: Source>(
 ) -> Result<NotedRun, LinkFault>
     requires session { IsRun session.old }
     requires fresh { run_of session.old ≡ fresh_run }
-    ensures end { IfSome (noted_end_of session.new result)
-        (IsEnd (ShowReadable packages.now path.now) (F.folder files.old) (S.left input.old)) }
+    ensures ran { EachTold (is_standard path.now ≡ true) (F.folder files.old)
+        (λ told. HasReadWorld told (S.left input.old) (S.left input.new)
+        (λ May. IfSome (noted_end_of session.new result) (λ e. HasTaskEnd (ShowReadable packages.now path.now)
+        (CountRose (S.faults input.old) (S.faults input.new))
+        (FileFailed (F.at files.new) (F.faults files.old) (F.faults files.new))
+        (CountRose (F.misses files.old) (F.misses files.new)) e May))) }
     ensures session { IsRun session.new }
     ensures exports { IfOk result (λ r. All (IsExportIn session.new) r.exports.items) }
     ensures lawful { IfOk result (λ r. IsLawfulEnds session.new r.exports.items) }
     ensures symbols { IfErr result (NamesSymbolIn session.new.kernel) }
-    ensures cause { IfSome (noted_end_of session.new result)
-        (HasTaskCause (ShowReadable packages.now path.now) (F.folder files.old) (S.left input.old)
-        (CountRose (S.faults input.old) (S.faults input.new))
-        (FileFailed (F.at files.new) (F.faults files.old) (F.faults files.new))
-        (CountRose (F.misses files.old) (F.misses files.new))) }
     ensures files { ClosesFiles F.folder F.faults F.misses F.left files.old files.new }
     ensures source { KeepsSource S.folder S.faults S.misses S.at input.old input.new }
     ensures other { LeavesOther path.now files.old files.new input.old input.new }
@@ -74,8 +75,8 @@ pub fn run_noted<F: Files, S: Source>(
 
 /// The namespaces that an input shows: those of a theory file's tags, and of an article none.
 fn shown_names<F: Files>(alloc: Global, path: &str, files: &mut F) -> Result<Vec<Name>, LinkFault>
-    ensures comes { IfSome (shown_at path.now (F.folder files.old))
-        (λ l. (k : State) → Comes k (λ names. names.items) result l) }
+    ensures comes { EachTold (is_standard path.now ≡ true) (F.folder files.old) (λ told. HasReadFiles told (λ folder.
+        (k : State) → Comes k (λ names. names.items) result (shown_at path.now folder))) }
     ensures theory { IfErr result (λ _. is_theory path.now ≡ true) }
     ensures symbols { IfErr result (λ e. (k : State) → NamesSymbolIn k e) }
     ensures cause { IfErr result (λ e. HasLinkCause e (F.misses files.old)

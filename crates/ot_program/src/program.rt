@@ -1,11 +1,12 @@
-ghost use Rattle.std.specs.Prelude.{◌≡◌, ◌≢◌, ◌↔◌, ◌⊎◌, ◌≤◌, None, Err, IfOk, IfSome, OnOk, OnErr};
+ghost use Rattle.std.specs.Prelude.{◌≡◌, ◌≢◌, ◌↔◌, ◌⊎◌, ◌≤◌, None, IfOk, IfSome, OnOk, OnErr};
 ghost use Rattle.std.specs.Io.KnownBytes.{Appends};
 ghost use Rattle.ot_io.specs.Causes.{CountRose, HasCause};
 ghost use Rattle.ot_io.specs.Keeping.{KeepsSource};
 ghost use Rattle.ot_io.specs.Sinks.{FlushesAll, AppendsFront};
 ghost use Rattle.ot_args.specs.Grammar.{texts_of, command_of};
-ghost use Rattle.ot_program.specs.Reply.{task_of, answer};
-ghost use Rattle.ot_program.specs.Answer.{MatchesReply, Outputs, IsOutput, SaysWhy, IsErrorLine, WritesLine, FileFailed};
+ghost use Rattle.ot_program.specs.World.{HasReadWorld, EachTold};
+ghost use Rattle.ot_program.specs.Reply.{task_of};
+ghost use Rattle.ot_program.specs.Answer.{IsAnswered, WritesLine, FileFailed, AsksNoFile, NoFileIsAsked};
 ghost use Rattle.ot_program.specs.Answer.{LeavesAlone, LeavesUnasked, LastPath, ClosesFiles};
 ghost use Rattle.ot_program.specs.Verdicts.{task_value, IsSized, IsTaskVerdict, IsSilent, Writes, Ends, error_line};
 
@@ -61,37 +62,25 @@ pub fn run<F: Files, S: Source, O: Sink, E: Sink>(
     // Status 2 comes exactly for words that are no command.
     ensures usage { (result ≡ Status.Usage) ↔ (command_of (texts_of words.now) ≡ None) }
 
-    // Where what the words name is known, the status and the texts are the stated reply's, unless a device fails or
-    // memory runs out.
-    ensures answer { IfSome (answer (texts_of words.now) (F.folder files.old) (S.left input.old))
-        (λ reply. MatchesReply result reply (O.written out.old) (O.written out.new)
-        (WritesLine E.written E.faults err.old err.new)) }
-
-    // Known or not: what is printed is a report on the run, or on the log, whose theorems are derivable from its
-    // assumptions under its definitions; with status 0 it is flushed, with 5 a front of it is written, with any other
-    // nothing.
-    ensures output { Outputs result O.written O.flushed out.old out.new
-        (IsOutput (task_of (texts_of words.now)) (F.folder files.old) (S.left input.old)) }
-
-    // Known or not: with status 0 nothing is said, and else the status's line: of 1 that of a fault or of a text that is
-    // too large, of 3 and 4 a path's. The device that 3, 4 or 5 blames counted it in this call.
-    ensures error { SaysWhy result E.written E.faults err.old err.new
-        (IsErrorLine result (task_of (texts_of words.now)) (F.folder files.old) (S.left input.old) (record {
+    // Of files and input something was read, with which what is told agrees; where no file is asked for, any folder may be
+    // taken for the one that is told. For each world in which it may have been read the status and the texts are those of
+    // the stated answer, unless a device fails or memory runs out. What is printed is a report on a run or a log, in each
+    // such world the stated one, whose theorems are derivable from its assumptions under its definitions; with status 0 it
+    // is flushed, with 5 a front of it is written, with any other nothing. What is said is nothing with status 0, and else
+    // the status's line: of 1 that of a fault or of a text that is too large, of 3 and 4 a path's. The device that 3, 4 or
+    // 5 blames counted it in this call.
+    ensures answered { EachTold (NoFileIsAsked (task_of (texts_of words.now))) (F.folder files.old)
+        (λ told. HasReadWorld told (S.left input.old) (S.left input.new)
+        (IsAnswered (texts_of words.now) result (record {
           input = CountRose (S.faults input.old) (S.faults input.new);
           file = FileFailed (F.at files.new) (F.faults files.old) (F.faults files.new);
+          files = CountRose (F.faults files.old) (F.faults files.new);
           missing = CountRose (F.misses files.old) (F.misses files.new);
           output = CountRose (O.faults out.old) (O.faults out.new);
-        })) }
+        }) O.written O.flushed out.old out.new E.written E.faults err.old err.new)) }
     // With 3 and 4 the path asked for last is the one that the words name, where that is an article's, a log's or a text's.
     ensures at { (result ≡ Status.NoFile) ⊎ (result ≡ Status.ReadFault)
         → IfSome (task_of (texts_of words.now)) (λ t. LastPath t (F.folder files.old) (F.at files.new)) }
-
-    // So where no count rose, the status is the stated one, or memory ran out.
-    ensures complete { IfSome (answer (texts_of words.now) (F.folder files.old) (S.left input.old)) (λ reply.
-        ¬ CountRose (S.faults input.old) (S.faults input.new)
-        → ¬ CountRose (F.faults files.old) (F.faults files.new)
-        → ¬ CountRose (O.faults out.old) (O.faults out.new)
-        → (result ≡ Status.Memory) ⊎ (result ≡ reply.status)) }
 
     // What the words don't ask for is left alone, counts never fall, and no file that was opened stays open.
     ensures other { LeavesUnasked (task_of (texts_of words.now)) files.old files.new input.old input.new }
@@ -123,10 +112,13 @@ fn run_task<F: Files, S: Source>(
     input: &mut S,
 ) -> Result<Verdict, Memory>
     requires { IsSized (task_value task) }
-    ensures verdict { IfOk result (IsTaskVerdict (task_value task.entry) (F.folder files.old) (S.left input.old) (F.at files.new)
+    ensures verdict { EachTold (AsksNoFile (task_value task.entry)) (F.folder files.old)
+        (λ told. HasReadWorld told (S.left input.old) (S.left input.new)
+        (λ May. IfOk result (λ v. IsTaskVerdict (task_value task.entry)
         (CountRose (S.faults input.old) (S.faults input.new))
         (FileFailed (F.at files.new) (F.faults files.old) (F.faults files.new))
-        (CountRose (F.misses files.old) (F.misses files.new))) }
+        (CountRose (F.misses files.old) (F.misses files.new)) v May))) }
+    ensures at { IfOk result (λ _. LastPath (task_value task.entry) (F.folder files.old) (F.at files.new)) }
     ensures files { ClosesFiles F.folder F.faults F.misses F.left files.old files.new }
     ensures source { KeepsSource S.folder S.faults S.misses S.at input.old input.new }
     ensures other { LeavesAlone (task_value task.entry) files.old files.new input.old input.new }

@@ -4,13 +4,15 @@ ghost use Rattle.std.specs.List.{All};
 ghost use Rattle.ot_io.specs.Causes.{CountRose};
 ghost use Rattle.ot_io.specs.Folder.{path_asked};
 ghost use Rattle.ot_io.specs.Keeping.{KeepsSource};
+ghost use Rattle.ot_io.specs.Readings.{HasReadFiles};
 ghost use Rattle.ot_machine.specs.Meaning.{IsRun, IsExportIn};
 ghost use Rattle.ot_parse.specs.Plain.{sequent_of};
 ghost use Rattle.ot_theory.specs.Lines.{lines_of};
 ghost use Rattle.ot_read.specs.Laws.{StandFor};
 ghost use Rattle.ot_read.specs.Lines.{lines_read, IsLineRefusal};
+ghost use Rattle.ot_program.specs.World.{HasReadWorld};
 ghost use Rattle.ot_program.specs.Reply.{ReadLines, notation, read_in, text_in};
-ghost use Rattle.ot_program.specs.Answer.{FileFailed, LeavesAlone, ClosesFiles};
+ghost use Rattle.ot_program.specs.Answer.{FileFailed, LeavesAlone, LastPath, ClosesFiles};
 ghost use Rattle.ot_program.specs.Verdicts.{noted_of, read_end_of, IsAnswer, IsVerdictOf};
 ghost use Rattle.ot_program.specs.Verdicts.{IsTextRefusal, IsTextCause, IsPrintedAs, IsTaskVerdict};
 
@@ -66,11 +68,13 @@ pub fn run_reading<F: Files, S: Source>(
     files: &mut F,
     input: &mut S,
 ) -> Result<Verdict, Memory>
-    ensures verdict { IfOk result (IsTaskVerdict (ReadLines packages.now path.now text.now)
-        (F.folder files.old) (S.left input.old) (F.at files.new)
+    ensures verdict { HasReadWorld (F.folder files.old) (S.left input.old) (S.left input.new)
+        (λ May. IfOk result (λ v. IsTaskVerdict (ReadLines packages.now path.now text.now)
         (CountRose (S.faults input.old) (S.faults input.new))
         (FileFailed (F.at files.new) (F.faults files.old) (F.faults files.new))
-        (CountRose (F.misses files.old) (F.misses files.new))) }
+        (CountRose (F.misses files.old) (F.misses files.new)) v May)) }
+    ensures at { IfOk result
+        (λ _. LastPath (ReadLines packages.now path.now text.now) (F.folder files.old) (F.at files.new)) }
     ensures files { ClosesFiles F.folder F.faults F.misses F.left files.old files.new }
     ensures source { KeepsSource S.folder S.faults S.misses S.at input.old input.new }
     ensures other { LeavesAlone (ReadLines packages.now path.now text.now) files.old files.new input.old input.new }
@@ -95,7 +99,7 @@ fn read_text<F: Files>(
 ) -> Result<LinesRead, ReadingRefusal>
     requires session { IsRun session.now }
     requires exports { All (IsExportIn session.now) run.now.exports.items }
-    ensures end { IfSome (F.folder files.old) (λ folder.
+    ensures read { HasReadFiles (F.folder files.old) (λ folder.
         IfSome (read_end_of text.now (noted_of session.now run.now) result)
         (IsAnswer (read_in (noted_of session.now run.now) text.now folder))) }
     ensures stand { IfOk result (λ r. StandFor (notation (noted_of session.now run.now))
@@ -128,9 +132,9 @@ fn read_text<F: Files>(
 
 /// The bytes of the text of a path, which are within the limit. No more than one byte past it is read.
 fn bytes_of<F: Files>(alloc: Global, text: &str, files: &mut F) -> Result<Vec<u8>, ReadingRefusal>
-    ensures ok { IfSome (F.folder files.old)
-        (λ folder. IfOk result (λ bytes. text_in text.now folder ≡ Ok bytes.items)) }
-    ensures refused { IfSome (F.folder files.old) (λ folder. IfErr result (IsTextRefusal (text_in text.now folder))) }
+    ensures read { HasReadFiles (F.folder files.old) (λ folder.
+        IfOk result (λ bytes. text_in text.now folder ≡ Ok bytes.items)
+        × IfErr result (IsTextRefusal (text_in text.now folder))) }
     ensures cause { IfErr result
         (λ e. IsTextCause e (FileFailed (F.at files.new) (F.faults files.old) (F.faults files.new) text.now)
         (CountRose (F.misses files.old) (F.misses files.new))) }

@@ -1,6 +1,6 @@
 //! The sample: an article of a size that is made, run and rewritten.
-ghost use Rattle.std.specs.Prelude.{◌≤◌, ℕ, List, Option, IfOk};
-ghost use Rattle.ot_io.specs.Folder.{Folder};
+ghost use Rattle.std.specs.Prelude.{◌≤◌, IfOk};
+ghost use Rattle.ot_program.specs.World.{anywhere};
 ghost use Rattle.ot_program.specs.Reply.{RunSample, MakeSample};
 ghost use Rattle.ot_program.specs.Verdicts.{IsTaskVerdict};
 
@@ -18,8 +18,7 @@ pub const SAMPLE: &str = "sample";
 /// Makes the sample article of a size, 1 to 1,000, runs it and rewrites it. It reads nothing.
 pub fn run_sample(alloc: Global, size: u64) -> Result<Verdict, Memory>
     requires { size ≤ 1000 }
-    ensures { (folder : Option Folder) (input at : Option (List ℕ))
-        → IfOk result (IsTaskVerdict (RunSample size) folder input at ⊥ (λ file. ⊥) ⊥) }
+    ensures { IfOk result (λ v. IsTaskVerdict (RunSample size) ⊥ (λ file. ⊥) ⊥ v anywhere) }
 {
     let mut made = Vec::new(alloc);
     sample_article(size, &mut made)?;
@@ -32,8 +31,7 @@ pub fn run_sample(alloc: Global, size: u64) -> Result<Verdict, Memory>
 /// Makes the sample article of a size, 1 to 1,000.
 pub fn make_sample(alloc: Global, size: u64) -> Result<Verdict, Memory>
     requires { size ≤ 1000 }
-    ensures { (folder : Option Folder) (input at : Option (List ℕ))
-        → IfOk result (IsTaskVerdict (MakeSample size) folder input at ⊥ (λ file. ⊥) ⊥) }
+    ensures { IfOk result (λ v. IsTaskVerdict (MakeSample size) ⊥ (λ file. ⊥) ⊥ v anywhere) }
 {
     let mut made = Vec::new(alloc);
     sample_article(size, &mut made)?;

@@ -20,7 +20,5 @@ pub mod Steps
 pub mod Reached
 -- Small folders, by computation.
 pub mod Rows
--- What calls read of files, one after the other.
-pub mod Agreeing
 -- The bytes of a file, from the front of it that was read.
 pub mod FileTexts

@@ -1,4 +1,4 @@
-ghost use Rattle.std.specs.Prelude.{◌≡◌, [], Some, IfOk, IfErr, IfSome};
+ghost use Rattle.std.specs.Prelude.{◌≡◌, [], Some, IfOk, IfErr};
 ghost use Rattle.std.specs.List.{list_any, filter};
 ghost use Rattle.std.specs.String.{string_bytes};
 ghost use Rattle.ot_io.specs.Readings.{HasReadFiles};
@@ -7,7 +7,7 @@ ghost use Rattle.ot_theory.specs.Answers.{tag_of, tags_of};
 ghost use Rattle.ot_repo.specs.Required.{required, required_over, is_requirement, index_path};
 ghost use Rattle.ot_repo.specs.Laws.{IsWalked};
 ghost use Rattle.ot_repo.specs.Reading.{IsTagFile};
-ghost use Rattle.ot_repo.specs.Answers.{ArePackages, FailsAt, Gives, IsAnswer, names_of, HasCause};
+ghost use Rattle.ot_repo.specs.Answers.{ArePackages, IsAnswer, names_of, HasCause};
 
 use crate::fault::RepoFault;
 use crate::index::Index;
@@ -49,15 +49,11 @@ pub fn required<F: Files>(
     ensures reads { HasReadFiles (F.folder files.old) (λ folder. IsAnswer names_of
         (IsWalked folder limits.now.theory_bytes packages.now theory_path.now) result
         (required folder limits.now.theory_bytes packages.now theory_path.now)) }
-    ensures required { IfSome (F.folder files.old) (λ folder. Gives names_of result
-        (required folder limits.now.theory_bytes packages.now theory_path.now)) }
     ensures full { IfOk result (λ names. ArePackages (names_of names)) }
     ensures cause { IfErr result (λ e. HasCause e (F.misses files.old) (F.misses files.new)
         (F.faults files.old) (F.faults files.new) (F.at files.new)) }
     ensures kept { KeepsFiles F.folder F.faults F.misses files.old files.new }
     ensures closed { F.left files.new ≡ Some [] }
-    ensures failure { IfSome (F.folder files.old) (λ folder.
-        IfErr result (FailsAt (IsWalked folder limits.now.theory_bytes packages.now theory_path.now))) }
 {
     let setting = Setting {
         alloc,

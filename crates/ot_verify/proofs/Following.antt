@@ -1,9 +1,8 @@
 -- The check of a log, from one record to the next, over the bytes that were read of a source.
-use Rattle.std.specs.Prelude.{true, false, Result, Ok, Err, IsOk, Option, Some, None, IfSome}
-use Rattle.std.specs.Io.KnownBytes.{IsAtEnd}
+use Rattle.std.specs.Prelude.{true, false, Result, Ok, Err, IsOk, Option, Some, None}
 use Rattle.std.proofs.Common.{◌≡◌, ℕ, List, [], sym, ap, subst, refl, ◌∙◌}
-use Rattle.ot_io.specs.Reading.{Reads, HasRead, OfTold}
-use Rattle.ot_io.proofs.Reading.{Reads-then, Reads-none, HasRead-told}
+use Rattle.ot_io.specs.Reading.{Reads, HasRead}
+use Rattle.ot_io.proofs.Reading.{Reads-then, Reads-none}
 use Rattle.ot_logic.specs.Names.{Name}
 use Rattle.ot_logic.specs.Naming.{names}
 use Rattle.ot_records.specs.State.{LogState, nothing_made}
@@ -158,22 +157,3 @@ none-checked max all = record {
   to_end = λ ok. cc;
   reads = Reads-none false all (λ x y. Verifies (Err verify.Memory) (log_check max x)) (λ x may. tt);
 }
-
--- of a source that tells its bytes
-of-all : (P : List ℕ → Type 0) (all left : Option (List ℕ)) → OfTold all left (λ x y. P x) → IfSome all P
-of-all P None left h = tt
-of-all P (Some x) None h = absurd h
-of-all P (Some x) (Some y) h = h
-
-none-left : (all left : Option (List ℕ)) → IsAtEnd left → IfSome all (λ _. IfSome left (λ bytes. bytes ≡ []))
-none-left None left h = tt
-none-left (Some x) None h = tt
-none-left (Some x) (Some y) h = h
-
-module _ {all left : Option (List ℕ)} {E : Type 0} {P : List ℕ → Type 0} (h : HasRead all left E (λ x y. P x)) where
-  pub read-told : IfSome all P
-  read-told = of-all P all left (HasRead-told all left E (λ x y. P x) h)
-
-  -- and was read to the end
-  pub read-spent : E → IfSome all (λ _. IfSome left (λ bytes. bytes ≡ []))
-  read-spent e = none-left all left (h.reads.end (λ e. cc) (h.to_end e))

@@ -1,4 +1,4 @@
-ghost use Rattle.std.specs.Prelude.{◌≡◌, ◌≤◌, ◌<◌, ◌^◌, ◌++◌, [], length, Err, IsOk, IfOk, OnOk, OnErr, IfSome};
+ghost use Rattle.std.specs.Prelude.{◌≡◌, ◌≤◌, ◌<◌, ◌^◌, ◌++◌, [], length, Err, IsOk, IfOk, OnOk, OnErr};
 ghost use Rattle.ot_io.specs.Causes.{CountRose};
 ghost use Rattle.ot_io.specs.Keeping.{KeepsSource};
 ghost use Rattle.ot_io.specs.Reading.{HasRead};
@@ -63,10 +63,7 @@ pub fn verify<S: Source>(
     // Of the bytes that were read, which end where the log is accepted.
     ensures checked { HasRead (S.left source.old) (S.left source.new) (IsOk result)
         (λ bytes rest. Verifies result (log_check max_bytes bytes)) }
-    // Where the source tells its bytes, of those.
-    ensures told { IfSome (S.left source.old) (λ bytes. Verifies result (log_check max_bytes bytes)) }
     ensures proved { IfOk result AreProved }
-    ensures spent { OnOk result (IfSome (S.left source.old) (λ _. IfSome (S.left source.new) (λ bytes. bytes ≡ []))) }
     ensures cause { result ≡ Err VerifyFault.ReadFault → CountRose (S.faults source.old) (S.faults source.new) }
     ensures kept { KeepsSource S.folder S.faults S.misses S.at source.old source.new }
 {

@@ -1,5 +1,6 @@
 use Rattle.std.specs.Prelude.{string_bytes}
 use Rattle.std.proofs.Common.{◌≡◌, [], length, refl, ap, subst}
+use Rattle.ot_io.proofs.Reading.{HasRead-map}
 use Rattle.ot_interp.specs.Interpretation.{identity, map_interpretation}
 use Rattle.ot_kernel.specs.State.{name_at}
 use Rattle.ot_scan.specs.Lines.{lines_of}
@@ -8,7 +9,6 @@ use Rattle.ot_machine.specs.Run.{run}
 use Rattle.ot_link.specs.Stops.{answered_by}
 use Rattle.ot_link.specs.Blocks.{article_end}
 use Rattle.ot_link.specs.Answers.{Comes, ran_of}
-use Rattle.ot_link.proofs.Agreeing.{HasRead-map, HasRead-if}
 use Rattle.ot_link.proofs.Lawful.{empty-ready}
 use Rattle.ot_link.proofs.article.run_alone.Goals as goal
 
@@ -30,6 +30,3 @@ returns-clause-reads g c =
     (λ i. answered_by path (article_end path
     (run (record { interpretation = stays i; theorems = [] }) (lines_of c.args.limits.now.article_bytes bytes)
     (record { article = fresh_article; run = c.requires.fresh i })))))
-
-pub returns-clause-ends : goal.returns-clause-ends
-returns-clause-ends g c = HasRead-if _ _ _ _ (returns-clause-reads g c)

@@ -1,6 +1,6 @@
 use Rattle.std.specs.Prelude.{string_bytes}
 use Rattle.std.proofs.Common.{inl, refl}
-use Rattle.ot_link.proofs.Agreeing.{HasRead-map}
+use Rattle.ot_io.proofs.Reading.{HasRead-map}
 use Rattle.ot_link.proofs.Ending.{exports-come, fault-comes}
 use Rattle.ot_link.proofs.article.run_named.Goals as goal
 

@@ -9,7 +9,7 @@ use Rattle.std.proofs.lemmas.List.Elements.{All-nil}
 use Rattle.std.proofs.lemmas.Result.{err_from_is_err_and}
 use Rattle.ot_logic.specs.Naming.{IsNameTable}
 use Rattle.ot_io.proofs.Keeping.{KeepsFiles-then}
-use Rattle.ot_io.proofs.Readings.{Files-none, Files-map}
+use Rattle.ot_io.proofs.Readings.{Files-none, Files-map, Files-next}
 use Rattle.ot_interp.specs.Interpretation.{map_interpretation}
 use Rattle.ot_kernel.specs.State.{name_at}
 use Rattle.ot_kernel.specs.Alike.{AreFirstPlaces}
@@ -37,7 +37,6 @@ use Rattle.ot_machine.specs.Lawful.{IsLawfulRun}
 use Rattle.ot_machine.specs.Writable.{IsWritable}
 use Rattle.ot_link.specs.Lawful.{AreLawfulExports, AreLawfulOnce}
 use Rattle.ot_link.specs.Running.{chain_of, first_source, opener_of, source_value, IsRunnable, IsSourceRight}
-use Rattle.ot_link.proofs.Agreeing.{Files-next}
 use Rattle.ot_link.proofs.FileParts.{out-of-memory}
 use Rattle.ot_link.proofs.Held.{exports-kept, exports-later, held-done, held-inside}
 use Rattle.ot_link.proofs.InBlock.{given-all, block-context, of_block-context}

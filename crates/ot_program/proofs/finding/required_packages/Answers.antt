@@ -1,37 +1,43 @@
-use Rattle.std.proofs.Common.{◌≡◌, ◌∙◌, ap, sym, true}
-use Rattle.ot_io.specs.Causes.{CountRose}
+use Rattle.std.proofs.Common.{◌≡◌, ◌∙◌, ap, sym, inl, inr, true, false, rules}
 use Rattle.ot_args.specs.Grammar.{is_theory}
-use Rattle.ot_repo.specs.Answers.{names_of}
-use Rattle.ot_program.specs.Answer.{FileFailed}
-use Rattle.ot_program.specs.Verdicts.{HasEndedWalk, IsWalkVerdict}
-use Rattle.ot_program.proofs.InputLemmas.{limits_are}
-use Rattle.ot_program.proofs.FindingLemmas.{ends_by, walk_ended, are_required}
+use Rattle.ot_program.specs.Reply.{is_standard}
+use Rattle.ot_program.proofs.InputLemmas.{limits_are, no_standard}
+use Rattle.ot_program.proofs.Worlds.{told_by}
+use Rattle.ot_program.proofs.FindingLemmas.{walk_found, walk_refused_in, article_walk, theory_ending}
 use Rattle.ot_program.proofs.finding.required_packages.Goals as goal
+
+-- ---- an article requires none
+
+pub returns-then-not-is_theory-clause-required : goal.returns-then-not-is_theory-clause-required
+returns-then-not-is_theory-clause-required g c =
+    let article : is_theory c.args.path.now ≡ false = sym c.is_theory.ensures ∙ c.if-not-is_theory.true in
+    λ told may. article_walk c.args.packages.now c.args.path.now told c.new.result _ _ article (search rules)
+
+-- ---- a theory file those of the walk
 
 pub returns-in-Ok-clause-required : goal.returns-in-Ok-clause-required
 returns-in-Ok-clause-required g c =
     let theory : is_theory c.args.path.now ≡ true = sym c.is_theory.ensures ∙ c.if-not-is_theory.false in
     let limit = ap (λ l. l.theory_bytes) (limits_are c.standard-limits.result c.standard-limits.ensures) in
-    are_required c.args.packages.now c.args.path.now (g.F.Source.folder c.args.files.now)
-    (names_of c.in-Ok.fulls) theory (rw limit at c.in-Ok.ensures.required)
+    λ told may.
+    let same = told_by (is_standard c.args.path.now) (g.F.Source.folder c.args.files.now) told
+    (no_standard c.args.path.now theory) may in
+    walk_found c.args.packages.now c.args.path.now told c.in-Ok.fulls _ _ theory
+    (rw (limit, sym same) at c.in-Ok.ensures.reads)
 
-pub returns-in-Err-clause-ended : goal.returns-in-Err-clause-ended
-returns-in-Err-clause-ended g c =
-    let packages = c.args.packages.now in
-    let path = c.args.path.now in
-    let folder = g.F.Source.folder c.args.files.now in
-    let at = g.F.Source.at c.required.new.files in
-    let f0 = g.F.Source.faults c.args.files.now in
-    let f1 = g.F.Source.faults c.required.new.files in
-    let m0 = g.F.Source.misses c.args.files.now in
-    let m1 = g.F.Source.misses c.required.new.files in
-    let theory : is_theory path ≡ true = sym c.is_theory.ensures ∙ c.if-not-is_theory.false in
+pub returns-in-Err-clause-required : goal.returns-in-Err-clause-required
+returns-in-Err-clause-required g c =
+    let theory : is_theory c.args.path.now ≡ true = sym c.is_theory.ensures ∙ c.if-not-is_theory.false in
     let limit = ap (λ l. l.theory_bytes) (limits_are c.standard-limits.result c.standard-limits.ensures) in
-    let gives = rw limit at c.in-Err.ensures.required in
-    let fails = rw limit at c.in-Err.ensures.failure in
-    rw c.ending_of.ensures
-    (ends_by (IsWalkVerdict c.in-Err.fault)
-    (HasEndedWalk packages path folder (FileFailed at f0 f1) (CountRose m0 m1))
-    c.walk_verdict.result
-    (walk_ended packages path folder at m0 m1 f0 f1 theory c.in-Err.fault gives c.in-Err.ensures.cause fails)
-    c.walk_verdict.ensures)
+    λ told may.
+    let same = told_by (is_standard c.args.path.now) (g.F.Source.folder c.args.files.now) told
+    (no_standard c.args.path.now theory) may in
+    rw c.ending_of.ensures (walk_refused_in c.args.packages.now c.args.path.now told
+    (g.F.Source.at c.required.new.files) (g.F.Source.misses c.args.files.now) (g.F.Source.misses c.required.new.files)
+    (g.F.Source.faults c.args.files.now) (g.F.Source.faults c.required.new.files) theory c.in-Err.fault
+    c.walk_verdict.result (rw (limit, sym same) at c.in-Err.ensures.reads) c.in-Err.ensures.cause c.walk_verdict.ensures)
+
+pub returns-in-Err-clause-theory : goal.returns-in-Err-clause-theory
+returns-in-Err-clause-theory g c =
+    let theory : is_theory c.args.path.now ≡ true = sym c.is_theory.ensures ∙ c.if-not-is_theory.false in
+    rw c.ending_of.ensures (theory_ending (is_theory c.args.path.now ≡ true) c.walk_verdict.result theory)

@@ -1,24 +1,13 @@
-use Rattle.ot_program.proofs.InputLemmas.{limits_are, theory_comes, theory_answer}
-use Rattle.ot_program.proofs.InputLemmas.{theory_cause, lawful_end}
+use Rattle.ot_program.proofs.InputLemmas.{limits_are, theory_ran, lawful_end}
 use Rattle.ot_program.proofs.input.run_theory.Goals as goal
 
-pub returns-clause-end : goal.returns-clause-end
-returns-clause-end g c =
-    theory_answer c.link.new.session c.link.result c.args.packages.now c.args.path.now
-    (g.F.Source.folder c.args.files.now)
-    (theory_comes c.link.new.session c.link.result c.args.packages.now c.args.path.now
-    (g.F.Source.folder c.args.files.now)
-    c.standard-limits.result (limits_are c.standard-limits.result c.standard-limits.ensures) c.link.ensures.links)
-
-pub returns-clause-cause : goal.returns-clause-cause
-returns-clause-cause g c =
-    theory_cause c.link.new.session c.link.result c.args.packages.now c.args.path.now
-    (g.F.Source.folder c.args.files.now) (g.F.Source.at c.link.new.files) (g.F.Source.misses c.args.files.now)
-    (g.F.Source.misses c.link.new.files) (g.F.Source.faults c.args.files.now) (g.F.Source.faults c.link.new.files)
-    (theory_comes c.link.new.session c.link.result c.args.packages.now c.args.path.now
-    (g.F.Source.folder c.args.files.now)
-    c.standard-limits.result (limits_are c.standard-limits.result c.standard-limits.ensures) c.link.ensures.links)
-    c.link.ensures.cause
+pub returns-clause-ran : goal.returns-clause-ran
+returns-clause-ran g c =
+    theory_ran c.link.new.session c.link.result c.args.packages.now c.args.path.now
+    (g.F.Source.folder c.args.files.now) c.standard-limits.result (g.F.Source.at c.link.new.files)
+    (g.F.Source.misses c.args.files.now) (g.F.Source.misses c.link.new.files) (g.F.Source.faults c.args.files.now)
+    (g.F.Source.faults c.link.new.files) (limits_are c.standard-limits.result c.standard-limits.ensures)
+    c.link.ensures.reads c.link.ensures.cause
 
 pub returns-clause-lawful : goal.returns-clause-lawful
 returns-clause-lawful g c =

@@ -1,16 +1,18 @@
-use Rattle.std.proofs.Common.{ℕ, List, subst}
+use Rattle.std.proofs.Common.{ℕ, List, inr, refl, subst}
+use Rattle.std.proofs.lemmas.Result.{err_from_is_err_and}
 use Rattle.std.specs.Option.{option_and_then}
 use Rattle.std.specs.Prelude.{Result, IfSome}
 use Rattle.ot_io.specs.Causes.{CountRose}
 use Rattle.ot_link.specs.declared.fault.LinkFault.{LinkFault}
-use Rattle.ot_program.specs.Reply.{ShowReadable, ReadLines, noted_at}
-use Rattle.ot_program.specs.Answer.{FileFailed, LastInput}
-use Rattle.ot_program.specs.Verdicts.{end_at, noted_of, noted_end_of, stop_end, read_end_of, IsEnd, HasTaskCause}
+use Rattle.ot_program.specs.Reply.{ReadLines}
+use Rattle.ot_program.specs.Answer.{FileFailed, LastInput, LastOf}
+use Rattle.ot_program.specs.Verdicts.{end_at, noted_of, noted_end_of, stop_end, read_end_of}
 use Rattle.ot_program.specs.declared.noted.NotedRun.{NotedRun}
+use Rattle.ot_program.proofs.Options.{ok_always}
+use Rattle.ot_program.proofs.Worlds.{world_map, world_none}
 use Rattle.ot_program.proofs.VerdictLemmas.{task_verdict}
 use Rattle.ot_program.proofs.NotedLemmas.{rose_later, file_later, keeps}
-use Rattle.ot_program.proofs.ReadingLemmas.{behind, stop_behind, text_cause, input_cause}
-use Rattle.ot_program.proofs.ReadingLemmas.{text_last, input_last, input_verdict}
+use Rattle.ot_program.proofs.ReadingLemmas.{read_ran, stop_behind, text_last, stop_last, input_verdict}
 use Rattle.ot_program.proofs.reading.run_reading.Goals as goal
 
 -- behind a run that ended
@@ -20,8 +22,9 @@ returns-in-Ok-clause-verdict g c =
     let packages = c.args.packages.now in
     let text = c.args.text.now in
     let t = ReadLines packages path text in
-    let folder = g.F.Source.folder c.args.files.now in
+    let told = g.F.Source.folder c.args.files.now in
     let left = g.S.Source.left c.args.input.now in
+    let left' = g.S.Source.left c.run_noted.new.input in
     let at = g.F.Source.at c.read_text-read.new.files in
     let f0 = g.F.Source.faults c.args.files.now in
     let f1 = g.F.Source.faults c.run_noted.new.files in
@@ -30,20 +33,25 @@ returns-in-Ok-clause-verdict g c =
     let m1 = g.F.Source.misses c.run_noted.new.files in
     let m2 = g.F.Source.misses c.read_text-read.new.files in
     let I : Type 0 = CountRose (g.S.Source.faults c.args.input.now) (g.S.Source.faults c.run_noted.new.input) in
+    let F : List ℕ → Type 0 = FileFailed at f0 f2 in
+    let N : Type 0 = CountRose m0 m2 in
     let n = noted_of c.run_noted.new.session c.in-Ok.noted in
     let o = read_end_of text n c.read_text-read.result in
     let kept = c.run_noted.ensures.files in
-    let ran = subst (λ (r : Result NotedRun LinkFault). IfSome
-    (noted_end_of c.run_noted.new.session r) (IsEnd (ShowReadable packages path) folder left))
-    c.in-Ok.is c.run_noted.ensures.end in
-    let read = rw kept.keeps.same_folder at c.read_text-read.ensures.end in
-    let last = rw kept.keeps.same_folder at c.read_text-read.ensures.at in
-    task_verdict I (FileFailed at f0 f2) (CountRose m0 m2) t folder left at o c.reading_verdict.result
-    (c.reading_verdict.ensures packages) (behind text folder (noted_at packages path folder left) n o ran read)
-    (text_cause packages path text folder left n I (FileFailed at f0 f2) (FileFailed at f1 f2 text) (CountRose m1 m2)
-    (CountRose m0 m2) c.read_text-read.result ran (file_later at f0 f1 f2 kept.keeps.later text)
+    let ran = world_map told left left' _ _ (λ May h. h.end) (c.in-Ok.ensures.ran told (inr refl)) in
+    let read = rw kept.keeps.same_folder at c.read_text-read.ensures.read in
+    world_map told left left' _ _
+    (λ May ended. task_verdict I F N t May o c.reading_verdict.result (c.reading_verdict.ensures packages) ended)
+    (read_ran told left left' packages path text n I F (FileFailed at f1 f2 text) (CountRose m1 m2) N
+    c.read_text-read.result ran read (file_later at f0 f1 f2 kept.keeps.later text)
     (rose_later m0 m1 m2 kept.keeps.later_misses) c.read_text-read.ensures.cause)
-    (text_last path text folder at o last)
+
+pub returns-in-Ok-clause-at : goal.returns-in-Ok-clause-at
+returns-in-Ok-clause-at g c =
+    let last = rw c.run_noted.ensures.files.keeps.same_folder at c.read_text-read.ensures.at in
+    ok_always _ c.reading_verdict.result
+    (text_last c.args.path.now c.args.text.now (g.F.Source.folder c.args.files.now)
+    (g.F.Source.at c.read_text-read.new.files) last)
 
 -- and behind one that stopped
 pub returns-clause-verdict : goal.returns-clause-verdict
@@ -51,33 +59,34 @@ returns-clause-verdict g c =
     let path = c.args.path.now in
     let packages = c.args.packages.now in
     let text = c.args.text.now in
-    let t = ReadLines packages path text in
-    let folder = g.F.Source.folder c.args.files.now in
+    let told = g.F.Source.folder c.args.files.now in
     let left = g.S.Source.left c.args.input.now in
+    let left' = g.S.Source.left c.run_noted.new.input in
     let at = g.F.Source.at c.run_noted.new.files in
-    let i = g.S.Source.faults c.args.input.now in
-    let j = g.S.Source.faults c.run_noted.new.input in
-    let f = g.F.Source.faults c.args.files.now in
-    let h = g.F.Source.faults c.run_noted.new.files in
-    let F : List ℕ → Type 0 = FileFailed at f h in
+    let I : Type 0 = CountRose (g.S.Source.faults c.args.input.now) (g.S.Source.faults c.run_noted.new.input) in
+    let F : List ℕ → Type 0 =
+    FileFailed at (g.F.Source.faults c.args.files.now) (g.F.Source.faults c.run_noted.new.files) in
     let Q : Type 0 = CountRose (g.F.Source.misses c.args.files.now) (g.F.Source.misses c.run_noted.new.files) in
-    let s = c.run_noted.new.session in
-    let o = end_at s.kernel c.in-Err.stop in
-    let ended = subst (λ (r : Result NotedRun LinkFault). IfSome
-    (noted_end_of s r) (IsEnd (ShowReadable packages path) folder left))
-    c.in-Err.is c.run_noted.ensures.end in
-    let caused = subst (λ (r : Result NotedRun LinkFault). IfSome
-    (noted_end_of s r) (HasTaskCause (ShowReadable packages path) folder left (CountRose i j) F Q))
-    c.in-Err.is c.run_noted.ensures.cause in
-    let lasted = subst (λ (r : Result NotedRun LinkFault). IfSome (noted_end_of s r) (λ _. LastInput path folder at))
-    c.in-Err.is c.run_noted.ensures.at in
-    task_verdict (CountRose i j) F Q t folder left at (option_and_then stop_end o) c.stopped.result
+    let o = end_at c.run_noted.new.session.kernel c.in-Err.stop in
+    world_map told left left' _ _
+    (λ May ended.
+    task_verdict I F Q (ReadLines packages path text) May (option_and_then stop_end o) c.stopped.result
     (input_verdict packages path text c.stopped.result o (rw c.kernel.ensures at c.stopped.ensures))
-    (stop_behind text folder (noted_at packages path folder left) o ended)
-    (input_cause packages path text folder left (CountRose i j) F Q o caused) (input_last path text folder at o lasted)
+    (stop_behind packages path text May I F Q o ended)) (c.in-Err.ensures.ran told (inr refl))
+
+pub returns-clause-at : goal.returns-clause-at
+returns-clause-at g c =
+    stop_last c.args.path.now c.args.text.now (g.F.Source.folder c.args.files.now)
+    (g.F.Source.at c.run_noted.new.files) c.stopped.result (end_at c.run_noted.new.session.kernel c.in-Err.stop)
+    (rw c.kernel.ensures at c.stopped.ensures) c.in-Err.ensures.at
 
 -- the files, over both
 pub returns-in-Ok-clause-files : goal.returns-in-Ok-clause-files
 returns-in-Ok-clause-files g c =
     keeps g.F.Source.folder g.F.Source.faults g.F.Source.misses g.F.Source.left c.args.files.now c.run_noted.new.files
     c.read_text-read.new.files c.run_noted.ensures.files c.read_text-read.ensures.files
+
+pub returns-in_err-session-clause-verdict : goal.returns-in_err-session-clause-verdict
+returns-in_err-session-clause-verdict g c =
+    let p = err_from_is_err_and c.from_residual.result c.from_residual.ensures.1 in
+    rw p.1 (world_none (g.F.Source.folder c.args.files.now) (g.S.Source.left c.args.input.now) _ (λ May. tt))

@@ -2,13 +2,12 @@ use Rattle.std.proofs.Common.{◌≡◌, ◌∙◌, rules, map, Ok, sym, ap, sub
 use Rattle.std.specs.Prelude.{string_bytes}
 use Rattle.std.specs.List.{filter}
 use Rattle.std.proofs.lemmas.Result.{err_from_is_err_and}
-use Rattle.ot_io.proofs.Readings.{Files-map}
+use Rattle.ot_io.proofs.Readings.{Files-map, Files-next}
 use Rattle.ot_theory.specs.Answers.{tags_of}
 use Rattle.ot_repo.specs.Required.{is_requirement}
 use Rattle.ot_repo.specs.Laws.{IsWalked}
 use Rattle.ot_repo.specs.Reading.{IsTagFile}
 use Rattle.ot_repo.specs.Answers.{Gives, names_of}
-use Rattle.ot_repo.proofs.Agreeing.{Files-next}
 use Rattle.ot_repo.proofs.Tags.{with_tags, without_tags}
 use Rattle.ot_repo.proofs.Reached.{fails_more, if_fails, inside_fails, own_file, walked_file}
 use Rattle.ot_repo.proofs.packages.required_by.Goals as goal

@@ -2,12 +2,11 @@ use Rattle.std.proofs.Common.{◌≡◌, ◌∙◌, rules, ap, subst}
 use Rattle.std.specs.Prelude.{string_bytes}
 use Rattle.std.specs.List.{filter}
 use Rattle.std.proofs.lemmas.Result.{err_from_is_err_and}
-use Rattle.ot_io.proofs.Readings.{Files-map}
+use Rattle.ot_io.proofs.Readings.{Files-map, Files-next}
 use Rattle.ot_theory.specs.Answers.{tags_of}
 use Rattle.ot_repo.specs.Required.{is_requirement, edges_of, required_over}
 use Rattle.ot_repo.specs.Answers.{Gives, names_of}
 use Rattle.ot_repo.specs.Reading.{listed_in, edges_left, IsReachedFile, IsTagFile}
-use Rattle.ot_repo.proofs.Agreeing.{Files-next}
 use Rattle.ot_repo.proofs.Reached.{fails_more, if_fails, inside_fails, list_file, index_is, reached_file, listed_walk}
 use Rattle.ot_repo.proofs.packages.required_over.Goals as goal
 

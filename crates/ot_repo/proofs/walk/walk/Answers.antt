@@ -6,7 +6,7 @@ use Rattle.std.proofs.lemmas.List.{map-append}
 use Rattle.std.proofs.lemmas.Result.{err_from_is_err_and}
 use Rattle.ot_logic.specs.Lists.{IsMember}
 use Rattle.ot_io.proofs.Keeping.{KeepsFiles-then}
-use Rattle.ot_io.proofs.Readings.{Files-none, Files-map}
+use Rattle.ot_io.proofs.Readings.{Files-none, Files-map, Files-next}
 use Rattle.ot_repo.specs.Walk.{walk_from}
 use Rattle.ot_repo.specs.Required.{edges_of, walked}
 use Rattle.ot_repo.specs.Answers.{ArePackages, names_of}
@@ -19,7 +19,6 @@ use Rattle.ot_repo.proofs.SoFar.{SoFar, Rests}
 use Rattle.ot_repo.proofs.Steps.{rests_known, rests_refused, rests_stopped, rests_new, rests_end, rests_done}
 use Rattle.ot_repo.proofs.Steps.{edges_popped, empty, no_edges, pushed, carried, start_so_far, popped_listed, left_so_far}
 use Rattle.ot_repo.proofs.Steps.{next_unmarked, opened, finished, smaller_opened, smaller_finished, walk_ends}
-use Rattle.ot_repo.proofs.Agreeing.{Files-next}
 use Rattle.ot_repo.proofs.Reached.{ReachedSoFar, fails_more, inside_fails, next_reached}
 use Rattle.ot_repo.proofs.Reached.{reached_left, reached_opened, reached_finished}
 use Rattle.ot_repo.proofs.walk.walk.Goals as goal

@@ -1,5 +1,5 @@
 use Rattle.std.specs.Prelude.{Ok, Err}
-use Rattle.std.proofs.Common.{refl, subst}
+use Rattle.std.proofs.Common.{subst}
 use Rattle.std.proofs.lemmas.Result.{err_from_is_err_and}
 use Rattle.ot_io.proofs.Keeping.{KeepsSource-then}
 use Rattle.ot_logic.specs.Naming.{names}
@@ -7,7 +7,7 @@ use Rattle.ot_records.specs.Records.{form}
 use Rattle.ot_verify.specs.Logged.{RecordedFrom}
 use Rattle.ot_verify.specs.Going.{BeginsFrom}
 use Rattle.ot_verify.proofs.Following.{none-checked, follows-header, header-refused, word-refused, follows-end}
-use Rattle.ot_verify.proofs.Following.{follows-record, record-refused, read-told, read-spent}
+use Rattle.ot_verify.proofs.Following.{follows-record, record-refused}
 use Rattle.ot_verify.proofs.checking.verify.Goals as goal
 
 -- ---- the answer is that of the check of the bytes that were read
@@ -45,26 +45,6 @@ returns-in-Err-clause-checked g c =
     (subst (λ first. RecordedFrom (Err c.in-Err.fault) (form names c.in-Some.word) first c.records.log.state
     c.take_record.new.log.state c.begin.new.self c.take_record.new.reader m n)
     c.last-first.ensures c.in-Err.ensures.recorded)
-
--- ---- also of all bytes of a source that tells them
-
-pub returns-in_err-log-clause-told : goal.returns-in_err-log-clause-told
-returns-in_err-log-clause-told g c = read-told (returns-in_err-log-clause-checked g c)
-
-pub returns-in_err-header-clause-told : goal.returns-in_err-header-clause-told
-returns-in_err-header-clause-told g c = read-told (returns-in_err-header-clause-checked g c)
-
-pub returns-in_err-word-clause-told : goal.returns-in_err-word-clause-told
-returns-in_err-word-clause-told g c = read-told (returns-in_err-word-clause-checked g c)
-
-pub returns-in_default-clause-told : goal.returns-in_default-clause-told
-returns-in_default-clause-told g c = read-told (returns-in_default-clause-checked g c)
-
-pub returns-in-Err-clause-told : goal.returns-in-Err-clause-told
-returns-in-Err-clause-told g c = read-told (returns-in-Err-clause-checked g c)
-
-pub returns-in_default-clause-spent : goal.returns-in_default-clause-spent
-returns-in_default-clause-spent g c = read-spent (returns-in_default-clause-checked g c) refl
 
 -- ---- the loop
 

@@ -1,11 +1,10 @@
-use Rattle.std.specs.Prelude.{Ok, Err}
+use Rattle.std.specs.Prelude.{Ok}
 use Rattle.std.proofs.Common.{◌≡◌, ◌∙◌, sym, ap, subst}
 use Rattle.ot_io.proofs.Keeping.{KeepsSource-then}
 use Rattle.ot_scan.specs.Lines.{TakesFrom}
 use Rattle.ot_machine.specs.Meaning.{state_of}
 use Rattle.ot_machine.specs.Contexts.{context_of}
 use Rattle.ot_machine.specs.Run.{line_step}
-use Rattle.ot_machine.proofs.Led.{read-leads}
 use Rattle.ot_machine.specs.Answers.{Refuses}
 use Rattle.ot_machine.specs.declared.fault.Fault.TheVariants.{Memory}
 use Rattle.ot_machine.specs.declared.fault.ArticleFault.TheVariants.{At}
@@ -83,24 +82,6 @@ line-requires-clause-context g c = of_context-kept c.args.session.now c.lines.se
 
 pub returns-in-Err-line-clause-grown : goal.returns-in-Err-line-clause-grown
 returns-in-Err-line-clause-grown g c = grows-on c.lines.invariant.grown c.in-Err-line.ensures.grown
-
-pub returns-in-Ok-None-clause-led : goal.returns-in-Ok-None-clause-led
-returns-in-Ok-None-clause-led g c =
-    read-leads (context_of c.args.session.now c.args.context.now) (state_of c.args.session.now c.args.self.now)
-    c.lines.session.kernel (Ok (tt {0})) c.args.max_bytes (state_of c.lines.session c.lines.self) _ _
-    (returns-in-Ok-None-clause-runs g c)
-
-pub returns-in-Err-line-clause-led : goal.returns-in-Err-line-clause-led
-returns-in-Err-line-clause-led g c =
-    read-leads (context_of c.args.session.now c.args.context.now) (state_of c.args.session.now c.args.self.now)
-    c.line.new.session.kernel (Err c.refusal.result) c.args.max_bytes (state_of c.line.new.session c.line.new.self) _ _
-    (returns-in-Err-line-clause-runs g c)
-
-pub returns-in-Err-clause-led : goal.returns-in-Err-clause-led
-returns-in-Err-clause-led g c =
-    read-leads (context_of c.args.session.now c.args.context.now) (state_of c.args.session.now c.args.self.now)
-    c.lines.session.kernel (Err c.from.result) c.args.max_bytes (state_of c.lines.session c.lines.self) _ _
-    (returns-in-Err-clause-runs g c)
 
 pub returns-in-Err-line-clause-apart : goal.returns-in-Err-line-clause-apart
 returns-in-Err-line-clause-apart g c =
