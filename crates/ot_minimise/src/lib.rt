@@ -1,4 +1,5 @@
-//! The minimised article of a run: its exports, behind the definitions that they need, with each object made once.
+//! The minimised article of a run: its exports, behind the definitions that they need. But for numbers it makes nothing
+//! twice in the same way.
 #![tactic(auto)]
 
 mod minimising;

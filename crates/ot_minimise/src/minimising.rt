@@ -16,8 +16,8 @@ use std::alloc::Global;
 ///
 /// The exports are lawful over the run of the session, as those are that the run of an article or of a theory file
 /// gives. Run alone, the article ends and exports the same; its assumptions and its definitions are the needed ones;
-/// and none of its commands could be left out. `TooLarge` comes exactly where it has more than `max` bytes, and after
-/// a refusal `out` is as it was.
+/// and but for numbers it makes nothing twice in the same way. `TooLarge` comes exactly where it has more than `max`
+/// bytes, and after a refusal `out` is as it was.
 pub fn minimise(
     alloc: Global,
     session: &Session,

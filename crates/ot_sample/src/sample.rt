@@ -19,8 +19,9 @@ const VARIABLES: &[u8] =
 const EQUALITY: &[u8] =
     b"nil \"=\" const 0 ref 1 ref 0 ref 1 ref \"bool\" typeOp nil opType nil cons cons opType nil cons cons opType constTerm ";
 
-/// Appends the sample article: a term that doubles `n` times, put for the variable of an abstraction. It has one
-/// theorem, and neither assumption nor definition. After running out of memory `out` is as it was.
+/// Appends the sample article: a term that doubles `n` times, put for the variable of an abstraction. After running out
+/// of memory `out` is as it was. The contract says which text it is; that the article is accepted, with one theorem and
+/// neither assumption nor definition, is tested.
 pub fn sample_article(n: u64, out: &mut Vec<u8>) -> Result<(), Memory>
     requires { n ≤ 1000 }
     ensures ok { OnOk result (out.new.items ≡ out.old.items ++ sample n) }
