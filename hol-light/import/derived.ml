@@ -4,7 +4,10 @@
 
 module Derived = struct
 
-  let equation l r = mk_comb (mk_comb (mk_const ("=", [type_of l, aty]), l), r)
+  (* An instance of = itself, since mk_const searches the kernel's list of    *)
+  (* constants, at whose end it stands.                                      *)
+  let equals = mk_const ("=", [])
+  let equation l r = mk_comb (mk_comb (inst [type_of l, aty] equals, l), r)
 
   let is_equation tm = can dest_eq tm
 
