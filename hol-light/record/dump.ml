@@ -3,6 +3,13 @@
 (* recording kernel (recorder.ml), constructor by constructor in their order.*)
 (* ========================================================================= *)
 
+(* Tables by numbers that are given out one after the other. *)
+module By_number = Hashtbl.Make (struct
+    type t = int
+    let equal (a : int) b = a = b
+    let hash (a : int) = a
+  end)
+
 module Dump = struct
 
   type hol_type =
@@ -17,20 +24,22 @@ module Dump = struct
 
   type sequent = Sequent of (term list * term)
 
-  type thm = { sequent : sequent; note : Obj.t }
+  type proof = Obj.t
+
+  type thm = { sequent : sequent; proof : proof }
 
   type inference =
       Refl of term
-    | Trans of thm * thm
-    | Mk_comb of thm * thm
-    | Abs_rule of term * thm
+    | Trans of proof * proof
+    | Mk_comb of proof * proof
+    | Abs_rule of term * proof
     | Beta of term
     | Assume of term
-    | Eq_mp of thm * thm
-    | Deduct_antisym of thm * thm
-    | Inst_type of (hol_type * hol_type) list * thm
-    | Inst of (term * term) list * thm
-    | Axiom
+    | Eq_mp of proof * proof
+    | Deduct_antisym of proof * proof * bool
+    | Inst_type of (hol_type * hol_type) list * proof
+    | Inst of (term * term) list * proof
+    | Axiom of term
     | Definition of string * term
     | Type_definition_abs of type_definition
     | Type_definition_rep of type_definition
@@ -52,10 +61,10 @@ module Dump = struct
       definitions : (string * thm) list;
       inferences : int }
 
-  let inference th : inference = Obj.obj (Obj.field th.note 0)
-  let number th : int = Obj.obj (Obj.field th.note 2)
-  let hypotheses { sequent = Sequent (hypotheses, _); note = _ } = hypotheses
-  let conclusion { sequent = Sequent (_, conclusion); note = _ } = conclusion
+  let inference (proof : proof) : inference = Obj.obj (Obj.field proof 0)
+  let number (proof : proof) : int = Obj.obj (Obj.field proof 2)
+  let hypotheses { sequent = Sequent (hypotheses, _); proof = _ } = hypotheses
+  let conclusion { sequent = Sequent (_, conclusion); proof = _ } = conclusion
 
   let read path =
     let channel = open_in_bin path in
@@ -72,13 +81,26 @@ module Dump = struct
       definitions = definitions;
       inferences = inferences }
 
-  (* The theorems that an inference was made from. *)
-  let premises th =
-    match inference th with
-      Refl _ | Beta _ | Assume _ | Axiom | Definition _ -> []
-    | Trans (a, b) | Mk_comb (a, b) | Eq_mp (a, b) | Deduct_antisym (a, b) -> [a; b]
+  (* The proofs of what an inference was made from. *)
+  let premises proof =
+    match inference proof with
+      Refl _ | Beta _ | Assume _ | Axiom _ | Definition _ -> []
+    | Trans (a, b) | Mk_comb (a, b) | Eq_mp (a, b) | Deduct_antisym (a, b, _) -> [a; b]
     | Abs_rule (_, a) | Inst_type (_, a) | Inst (_, a) -> [a]
-    | Type_definition_abs d | Type_definition_rep d -> [d.premise]
+    | Type_definition_abs d | Type_definition_rep d -> [d.premise.proof]
+
+  let rec same_type a b =
+    a == b
+    || match a, b with
+         Tyvar v, Tyvar w -> String.equal v w
+       | Tyapp (f, xs), Tyapp (g, ys) -> String.equal f g && same_types xs ys
+       | _ -> false
+
+  and same_types xs ys =
+    match xs, ys with
+      [], [] -> true
+    | x :: xs, y :: ys -> same_type x y && same_types xs ys
+    | _ -> false
 
   (* Are two terms one, up to the names of binders? *)
   let same_term s t =

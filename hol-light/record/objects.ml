@@ -3,6 +3,31 @@
 (* with at most two operands that are objects, and equal ones are one.       *)
 (* ========================================================================= *)
 
+(* Tables by texts, by types, and by variables and constants.                *)
+
+module By_text = Hashtbl.Make (struct
+    type t = string
+    let equal = String.equal
+    let hash (text : t) = Hashtbl.hash text
+  end)
+
+module By_type = Hashtbl.Make (struct
+    type t = Dump.hol_type
+    let equal = Dump.same_type
+    let hash (ty : t) = Hashtbl.hash ty
+  end)
+
+module By_leaf = Hashtbl.Make (struct
+    type t = Dump.term
+    let equal a b =
+      match a, b with
+        Dump.Var (x, ty), Dump.Var (y, other)
+      | Dump.Const (x, ty), Dump.Const (y, other) ->
+          String.equal x y && Dump.same_type ty other
+      | _ -> false
+    let hash (leaf : t) = Hashtbl.hash leaf
+  end)
+
 module Objects = struct
 
   type word =
@@ -38,7 +63,9 @@ module Objects = struct
       mutable seconds : int array;
       mutable count : int;
       mutable slots : int array;            (* a hash table of objects, -1 is free *)
-      texts : (string, int) Hashtbl.t;
+      texts : int By_text.t;
+      types : int By_type.t;
+      leaves : int By_leaf.t;               (* variables, and terms that are constants *)
       mutable spelled : string array;       (* by the number of a text *)
       mutable last_text : int }
 
@@ -48,7 +75,9 @@ module Objects = struct
       seconds = Array.make 1024 0;
       count = 0;
       slots = Array.make 4096 (-1);
-      texts = Hashtbl.create 1000;
+      texts = By_text.create 1000;
+      types = By_type.create 1000;
+      leaves = By_leaf.create 1000;
       spelled = Array.make 1024 "";
       last_text = -1 }
 
@@ -67,8 +96,11 @@ module Objects = struct
     Array.blit items 0 larger 0 (Array.length items);
     larger
 
+  (* A word is no block of memory, so it is a small number. *)
+  external number_of_word : word -> int = "%identity"
+
   let hash word first second =
-    let mixed = (Hashtbl.hash word * 31 + first) * 0x9E3779B1 + second * 0x27D4EB2F165667C5 in
+    let mixed = (number_of_word word * 31 + first) * 0x9E3779B1 + second * 0x27D4EB2F165667C5 in
     let mixed = (mixed lxor (mixed lsr 29)) * 0x165667B19E3779F9 in
     (mixed lxor (mixed lsr 32)) land max_int
 
@@ -113,14 +145,14 @@ module Objects = struct
 
   let name t name =
     let number =
-      match Hashtbl.find_opt t.texts name with
+      match By_text.find_opt t.texts name with
         Some number -> number
       | None ->
           let number = t.last_text + 1 in
           if number = Array.length t.spelled then t.spelled <- doubled t.spelled "";
           t.spelled.(number) <- Spelling.spell [name];
           t.last_text <- number;
-          Hashtbl.add t.texts name number;
+          By_text.add t.texts name number;
           number in
     make t Name number 0
 
@@ -137,23 +169,40 @@ module Objects = struct
     make t Type_op (name t (if name_ = "fun" then "->" else name_)) 0
 
   let rec hol_type t ty =
-    match ty with
-      Dump.Tyvar v -> make t Var_type (name t v) 0
-    | Dump.Tyapp (operator, arguments) ->
-        let arguments = list t (List.map (hol_type t) arguments) in
-        make t Op_type (type_operator t operator) arguments
-
-  let variable t v =
-    match v with
-      Dump.Var (n, ty) -> make t Var (name t n) (hol_type t ty)
-    | _ -> failwith "no variable"
+    match By_type.find_opt t.types ty with
+      Some i -> i
+    | None ->
+        let i =
+          match ty with
+            Dump.Tyvar v -> make t Var_type (name t v) 0
+          | Dump.Tyapp (operator, arguments) ->
+              let arguments = list t (List.map (hol_type t) arguments) in
+              make t Op_type (type_operator t operator) arguments in
+        By_type.add t.types ty i;
+        i
 
   let constant t n = make t Const (name t n) 0
 
+  (* The object of a variable, or of the term that is a constant. *)
+  let leaf t tm =
+    match By_leaf.find_opt t.leaves tm with
+      Some i -> i
+    | None ->
+        let i =
+          match tm with
+            Dump.Var (n, ty) -> make t Var (name t n) (hol_type t ty)
+          | Dump.Const (n, ty) -> make t Const_term (constant t n) (hol_type t ty)
+          | Dump.Comb _ | Dump.Abs _ -> failwith "no variable and no constant" in
+        By_leaf.add t.leaves tm i;
+        i
+
+  let variable t v =
+    match v with Dump.Var _ -> leaf t v | _ -> failwith "no variable"
+
   let rec term t tm =
     match tm with
-      Dump.Var _ -> make t Var_term (variable t tm) 0
-    | Dump.Const (n, ty) -> make t Const_term (constant t n) (hol_type t ty)
+      Dump.Var _ -> make t Var_term (leaf t tm) 0
+    | Dump.Const _ -> leaf t tm
     | Dump.Comb (f, x) -> let f = term t f in make t App_term f (term t x)
     | Dump.Abs (v, body) -> let v = variable t v in make t Abs_term v (term t body)
 

@@ -35,8 +35,8 @@ module Packages = struct
   type theorem =
     { names : string list;       (* none for an unnamed theorem of a definition *)
       comment : string;
-      numbers : int list;        (* of all inferences that gave this sequent *)
-      th : Dump.thm }
+      th : Dump.thm;
+      same : Dump.thm list }     (* all theorems with this sequent, th among them *)
 
   let files_of dump block =
     let rec from files =
@@ -67,21 +67,23 @@ module Packages = struct
               if same other then
                 { other with
                   names = other.names @ theorem.names;
-                  numbers = other.numbers @ theorem.numbers }
+                  same = other.same @ theorem.same }
               else other)
             kept in
     List.rev (List.fold_left add [] theorems)
+
+  let number_of th = Dump.number th.Dump.proof
 
   let theorems_of dump block =
     let files = files_of dump block in
     let from, beyond = range files in
     let theorem names comment th =
-      { names = names; comment = comment; numbers = [Dump.number th]; th = th } in
+      { names = names; comment = comment; th = th; same = [th] } in
     let named (name, th) = theorem [name] name th in
     let unnamed (what, th) = theorem [] ("the definition of " ^ what) th in
-    let is_inside (_, th) = from <= Dump.number th && Dump.number th < beyond in
+    let is_inside (_, th) = from <= number_of th && number_of th < beyond in
     let by_name (a, _) (b, _) = compare a b in
-    let by_age a b = compare (Dump.number a.th) (Dump.number b.th) in
+    let by_age a b = compare (number_of a.th) (number_of b.th) in
     let in_files = List.concat_map (fun file -> file.Dump.theorems) files in
     let all =
       List.map named (List.sort by_name in_files)
@@ -158,7 +160,7 @@ module Packages = struct
     let objects = proofs.Proofs.objects in
     let terms = List.map (Objects.term objects) in
     { Article.comment = theorem.comment;
-      Article.theorem = Proofs.made proofs theorem.th;
+      Article.theorem = Proofs.made proofs theorem.th.Dump.proof;
       Article.hypotheses = Objects.list objects (terms (Dump.hypotheses theorem.th));
       Article.conclusion = Objects.term objects (Dump.conclusion theorem.th) }
 
@@ -166,14 +168,15 @@ module Packages = struct
   let names_line theorem =
     if theorem.names = [] then "-" else String.concat " " theorem.names
 
-  (* Writes the package of a block. exported has the numbers of the theorems *)
-  (* that earlier packages export, and gets those of this one. Gives back    *)
-  (* the entries of the table that its symbols have.                         *)
+  (* Writes the package of a block. exported has the theorems that earlier   *)
+  (* packages export, by the numbers of their inferences, and gets those of  *)
+  (* this one. Gives back the entries of the table that its symbols have.    *)
   let write_package folder dump table exported required block =
     let from, _ = range (files_of dump block) in
-    let is_imported th =
-      Dump.number th < from && Hashtbl.mem exported (Dump.number th) in
-    let proofs = Proofs.start is_imported in
+    let import_of proof =
+      let number = Dump.number proof in
+      if number < from then By_number.find_opt exported number else None in
+    let proofs = Proofs.start import_of in
     let theorems = theorems_of dump block in
     Proofs.add_all proofs (List.map (fun theorem -> theorem.th) theorems);
     let exports = List.map (export_of proofs) theorems in
@@ -186,8 +189,8 @@ module Packages = struct
     let entries = entries_of table (Article.symbols article) in
     write_file (path ".thy") (package_theory block entries required);
     write_file (path ".names") (List.map names_line theorems);
-    let note number = Hashtbl.replace exported number () in
-    List.iter (fun theorem -> List.iter note theorem.numbers) theorems;
+    let note th = By_number.replace exported (number_of th) th in
+    List.iter (fun theorem -> List.iter note theorem.same) theorems;
     Printf.printf "%s: %d commands, %d theorems, %d of them without a name, %d taken from earlier packages\n%!"
       (full_name block) article.Article.commands (List.length theorems)
       (List.length (List.filter (fun theorem -> theorem.names = []) theorems))
@@ -199,7 +202,10 @@ module Packages = struct
   let write_all folder dump table blocks =
     let packages = Filename.concat folder "packages" in
     List.iter make_folder [folder; packages];
-    let exported = Hashtbl.create 1000 in
+    let named = List.concat_map (fun file -> file.Dump.theorems) dump.Dump.files in
+    Printf.printf "recorded: %d inferences, %d theorems with a name\n%!"
+      dump.Dump.inferences (List.length named);
+    let exported = By_number.create 1000 in
     let write (before, entries) block =
       let own = write_package packages dump table exported before block in
       [block], entries @ own in

@@ -16,18 +16,18 @@ module Proofs = struct
 
   type t =
     { objects : Objects.t;
-      is_imported : Dump.thm -> bool;
-      made : (int, int) Hashtbl.t;                      (* objects by inference *)
+      import_of : Dump.proof -> Dump.thm option;        (* from an earlier package *)
+      made : int By_number.t;                           (* objects by inference *)
       mutable imported : int;
       mutable definitions : definition list;            (* the latest first *)
       mutable definition_count : int;
       constants : (int, int) Hashtbl.t;                 (* definitions by name *)
       operators : (int, int) Hashtbl.t }
 
-  let start is_imported =
+  let start import_of =
     { objects = Objects.create ();
-      is_imported = is_imported;
-      made = Hashtbl.create 100000;
+      import_of = import_of;
+      made = By_number.create 100000;
       imported = 0;
       definitions = [];
       definition_count = 0;
@@ -39,7 +39,9 @@ module Proofs = struct
   let term t tm = Objects.term t.objects tm
   let list t items = Objects.list t.objects items
 
-  let made t th = Hashtbl.find t.made (Dump.number th)
+  let made t proof = By_number.find t.made (Dump.number proof)
+
+  let is_imported t proof = Option.is_some (t.import_of proof)
 
   (* ---- Definitions. ---- *)
 
@@ -82,7 +84,7 @@ module Proofs = struct
                   abs = name d.Dump.abs_name;
                   rep = name d.Dump.rep_name;
                   variables = list t (List.map name variables);
-                  premise = made t d.Dump.premise })
+                  premise = made t d.Dump.premise.Dump.proof })
 
   (* From an object of |- (\v. l) = (\v. r) that of |- l = r. *)
   let without_binders t th v l r =
@@ -122,9 +124,9 @@ module Proofs = struct
 
   (* ---- Inferences. ---- *)
 
-  let axiom t th =
-    let hypotheses = list t (List.map (term t) (Dump.hypotheses th)) in
-    make t Objects.Axiom hypotheses (term t (Dump.conclusion th))
+  let axiom t hypotheses conclusion =
+    let hypotheses = list t (List.map (term t) hypotheses) in
+    make t Objects.Axiom hypotheses (term t conclusion)
 
   let type_pairs t theta =
     let pair (ty, v) =
@@ -146,46 +148,46 @@ module Proofs = struct
     if types = [] && terms = [] then th
     else make t Objects.Subst (list t [list t types; list t terms]) th
 
-  let is_refl th = match Dump.inference th with Dump.Refl _ -> true | _ -> false
+  let is_refl proof =
+    match Dump.inference proof with Dump.Refl _ -> true | _ -> false
 
-  let is_refl_of_equals th =
-    match Dump.inference th with Dump.Refl (Dump.Const ("=", _)) -> true | _ -> false
+  let is_refl_of_equals proof =
+    match Dump.inference proof with
+      Dump.Refl (Dump.Const ("=", _)) -> true
+    | _ -> false
 
-  (* Of an EQ_MP that is the last step of SYM the theorem that it turns. *)
+  (* Of an EQ_MP that is the last step of SYM what it turns. *)
   let turned a b =
     match Dump.inference a with
       Dump.Mk_comb (applied, same) when is_refl same && is_refl b ->
         (match Dump.inference applied with
-           Dump.Mk_comb (equals, th) when is_refl_of_equals equals -> Some th
+           Dump.Mk_comb (equals, proof) when is_refl_of_equals equals -> Some proof
          | _ -> None)
     | _ -> None
 
-  (* Of an EQ_MP that is the last step of PROVE_HYP the other theorem. *)
+  (* Of an EQ_MP that is the last step of PROVE_HYP what loses a hypothesis. *)
   let discharged a lemma =
     match Dump.inference a with
-      Dump.Deduct_antisym (x, y)
-        when Dump.number x = Dump.number lemma
-             && List.exists (Dump.same_term (Dump.conclusion x)) (Dump.hypotheses y) ->
-        Some y
+      Dump.Deduct_antisym (x, y, true) when Dump.number x = Dump.number lemma -> Some y
     | _ -> None
 
   let eq_mp t a b =
     match turned a b, discharged a b with
-      Some th, _ -> make_one t Objects.Sym (made t th)
-    | None, Some th -> make t Objects.Prove_hyp (made t th) (made t b)
+      Some proof, _ -> make_one t Objects.Sym (made t proof)
+    | None, Some proof -> make t Objects.Prove_hyp (made t proof) (made t b)
     | None, None -> make t Objects.Eq_mp (made t a) (made t b)
 
-  let inst t theta th =
-    match Dump.inference th, theta with
+  let inst t theta proof =
+    match Dump.inference proof, theta with
       Dump.Beta (Dump.Comb ((Dump.Abs (v, _) as f), _)), [x, w] when v = w ->
         make_one t Objects.Beta_conv (term t (Dump.Comb (f, x)))
-    | Dump.Inst_type (types, before), _ when not (t.is_imported th) ->
+    | Dump.Inst_type (types, before), _ when not (is_imported t proof) ->
         let types = type_pairs t types in
         subst t types (term_pairs t theta) (made t before)
-    | _ -> subst t [] (term_pairs t theta) (made t th)
+    | _ -> subst t [] (term_pairs t theta) (made t proof)
 
-  let infer t th =
-    match Dump.inference th with
+  let infer t proof =
+    match Dump.inference proof with
       Dump.Refl tm -> make_one t Objects.Refl (term t tm)
     | Dump.Beta tm -> make_one t Objects.Beta_conv (term t tm)
     | Dump.Assume tm -> make_one t Objects.Assume (term t tm)
@@ -194,33 +196,34 @@ module Proofs = struct
     | Dump.Abs_rule (v, a) ->
         make t Objects.Abs_thm (Objects.variable t.objects v) (made t a)
     | Dump.Eq_mp (a, b) -> eq_mp t a b
-    | Dump.Deduct_antisym (a, b) -> make t Objects.Deduct_antisym (made t a) (made t b)
+    | Dump.Deduct_antisym (a, b, _) ->
+        make t Objects.Deduct_antisym (made t a) (made t b)
     | Dump.Inst_type (types, a) -> subst t (type_pairs t types) [] (made t a)
     | Dump.Inst (theta, a) -> inst t theta a
-    | Dump.Axiom -> axiom t th
+    | Dump.Axiom tm -> axiom t [] tm
     | Dump.Definition (name, meaning) -> constant_definition t name meaning
     | Dump.Type_definition_abs d -> abs_theorem t d
     | Dump.Type_definition_rep d -> rep_theorem t d
 
-  let add t th =
+  let add t proof =
     let i =
-      if t.is_imported th then begin
-        t.imported <- t.imported + 1;
-        axiom t th
-      end
-      else infer t th in
-    Hashtbl.replace t.made (Dump.number th) i
+      match t.import_of proof with
+        Some th ->
+          t.imported <- t.imported + 1;
+          axiom t (Dump.hypotheses th) (Dump.conclusion th)
+      | None -> infer t proof in
+    By_number.replace t.made (Dump.number proof) i
 
-  (* All theorems that some rest on, up to imported ones. *)
-  let reached t ths =
-    let seen = Hashtbl.create 100000 in
+  (* All proofs in some proofs, up to those of imported theorems. *)
+  let reached t proofs =
+    let seen = By_number.create 100000 in
     let open_ = Stack.create () in
-    let visit th =
-      if not (Hashtbl.mem seen (Dump.number th)) then begin
-        Hashtbl.add seen (Dump.number th) th;
-        if not (t.is_imported th) then Stack.push th open_
+    let visit proof =
+      if not (By_number.mem seen (Dump.number proof)) then begin
+        By_number.add seen (Dump.number proof) proof;
+        if not (is_imported t proof) then Stack.push proof open_
       end in
-    List.iter visit ths;
+    List.iter visit proofs;
     while not (Stack.is_empty open_) do
       List.iter visit (Dump.premises (Stack.pop open_))
     done;
@@ -228,11 +231,11 @@ module Proofs = struct
 
   (* Makes the objects of some theorems, each inference behind its premises. *)
   let add_all t ths =
-    let seen = reached t ths in
-    let numbers = Array.make (Hashtbl.length seen) 0 in
+    let seen = reached t (List.map (fun th -> th.Dump.proof) ths) in
+    let numbers = Array.make (By_number.length seen) 0 in
     let next = ref 0 in
-    Hashtbl.iter (fun number _ -> numbers.(!next) <- number; incr next) seen;
+    By_number.iter (fun number _ -> numbers.(!next) <- number; incr next) seen;
     Array.sort compare numbers;
-    Array.iter (fun number -> add t (Hashtbl.find seen number)) numbers
+    Array.iter (fun number -> add t (By_number.find seen number)) numbers
 
 end;;
