@@ -16,9 +16,22 @@ module Session_values = struct
       (fun name _ value names -> (name, text value.Types.val_type) :: names)
       None !Toploop.toplevel_env []
 
+  (* What a function gives, without what it writes on standard error.        *)
+  let quietly f =
+    Format.pp_print_flush Format.err_formatter ();
+    let write, flush = Format.pp_get_formatter_output_functions Format.err_formatter () in
+    Format.pp_set_formatter_output_functions Format.err_formatter (fun _ _ _ -> ()) ignore;
+    let restore () =
+      Format.pp_set_formatter_output_functions Format.err_formatter write flush in
+    match f () with
+      answer -> restore (); answer
+    | exception e -> restore (); raise e
+
   (* The value of a name, or none where the toplevel has only its type: that *)
-  (* is so of names whose definition failed.                                 *)
-  let value name = try Some (Toploop.getvalue name) with _ -> None
+  (* is so of names whose definition failed, or is under way. It complains   *)
+  (* of these on standard error.                                             *)
+  let value name =
+    quietly (fun () -> try Some (Toploop.getvalue name) with _ -> None)
 
   (* The values of a type, each with its name. *)
   let values_of ty =
