@@ -201,7 +201,7 @@ class Generator:
         s, g, e = self.choose(self.proved)
         if sides(e):
             left, right = sides(e)
-            variable = self.choose(frees(e) or {free("x", A)})
+            variable = self.choose(sorted(frees(e)) or [free("x", A)])
             if self.chance(95) and any(variable in frees(h) for h in g):
                 return
             number = self.log.abs_thm(variable[1], variable[2], s)
