@@ -1,4 +1,5 @@
-(* Fed to a session by ../measure, in a folder with a log of 20,000 definitions: imports it. Prints IMPORT and the seconds. *)
+(* Fed to a session by ../measure, in a folder with a log of 20,000 definitions: imports it. Prints IMPORT and the
+   seconds. *)
 
 let () =
   let before = Sys.time () in
