@@ -88,12 +88,6 @@ class Log:
             self.terms[term] = len(self.terms)
         return self.terms[term]
 
-    def application(self, f, x):
-        """The number of an application of terms, by their numbers: a term that is large as a tree is written so."""
-        self.put("app", f, x)
-        self.terms["application", f, x] = len(self.terms)
-        return self.terms["application", f, x]
-
     def made(self, *tokens):
         self.put(*tokens)
         self.sequents += 1

@@ -173,6 +173,28 @@ def variables_that_would_be_caught(log):
     log.results(r, log.subst(r, [], [("x", BOOL, free("x0", BOOL))]), a, b)
 
 
+def without_a_type():
+    x = free("x", BOOL)
+    return app(x, x)
+
+
+def term_without_a_type_that_no_step_uses(log):
+    log.term(without_a_type())
+    log.results(log.refl(free("x", BOOL)))
+
+
+def second_pair_without_a_type(log):
+    log.results(log.subst(log.refl(free("x", BOOL)), [], [("x", BOOL, free("y", BOOL)), ("x", BOOL, without_a_type())]))
+
+
+def pair_without_a_type_for_another_variable(log):
+    log.subst(log.refl(free("x", BOOL)), [], [("z", BOOL, without_a_type())])
+
+
+def open_term_for_another_variable(log):
+    log.subst(log.refl(free("x", BOOL)), [], [("z", BOOL, bound(0))])
+
+
 def variable_free_in_a_hypothesis(log):
     x = free("x", BOOL)
     log.abs_thm("x", BOOL, log.rule("deductAntisym", log.assume(x), log.refl(x)))
