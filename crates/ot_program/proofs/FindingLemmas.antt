@@ -39,11 +39,14 @@ use Rattle.ot_read.specs.Lines.{RefusedLine, at_line, term_read}
 use Rattle.ot_print.specs.Laws.{TextsNameOne}
 use Rattle.ot_program.specs.Texts.{column_line, required_line}
 use Rattle.ot_program.specs.World.{World, Every, HasReadWorld, HasReadFolder}
-use Rattle.ot_program.specs.Reply.{FindPattern, ShowReadable, FindStop, InRequired, InRun, InPattern}
-use Rattle.ot_program.specs.Reply.{PackageRun, Searched, Noted, noted, search, package_runs, required_at, find_at}
-use Rattle.ot_program.specs.Reply.{sources, is_standard, found, limits, theory_run, theory_shown, noted_at, notation}
-use Rattle.ot_program.specs.Reply.{exports_of, run_lists, required_status, pattern_path}
-use Rattle.ot_program.specs.Answer.{IsProved, IsSearchFile, OfWalk, OfPackage, IsResult, FileFailed, LastInput, LeavesOther}
+use Rattle.ot_program.specs.Tasks.{FindPattern, ShowReadable, is_standard}
+use Rattle.ot_program.specs.Runs.{Noted, noted, limits, theory_run, theory_shown, noted_at, notation}
+use Rattle.ot_program.specs.Runs.{exports_of}
+use Rattle.ot_program.specs.Command.{run_lists, IsProved, LastInput, LeavesOther}
+use Rattle.ot_program.specs.FindPattern.{FindStop, InRequired, InRun, InPattern, PackageRun, Searched, search}
+use Rattle.ot_program.specs.FindPattern.{package_runs, required_at, find_at, sources, found, required_status}
+use Rattle.ot_program.specs.FindPattern.{pattern_path, IsSearchFile, OfWalk, OfPackage}
+use Rattle.ot_program.specs.Answer.{IsResult, FileFailed}
 use Rattle.ot_program.specs.Verdicts.{AnswersIn, ran_from, noted_of, ending_of, HasEnded, AtStop, AtFailure, IfEnded}
 use Rattle.ot_program.specs.Verdicts.{IsWalkVerdict, HasEndedWalk, HasEndedInput, HasEndedPattern, HasEndedRun}
 use Rattle.ot_program.specs.Verdicts.{HasEndedRuns, HasEndedBehind, AtPattern, AtRuns, HasEndedSearch, IsPattern}

@@ -28,9 +28,10 @@ use Rattle.ot_link.specs.Answers.{Comes, ran_of, IsOfArticle, HasFailed, HasCaus
 use Rattle.ot_link.specs.declared.fault.LinkFault.{LinkFault}
 use Rattle.ot_link.specs.declared.fault.LinkFault.TheVariants as faults
 use Rattle.ot_program.specs.World.{World, Every, HasReadWorld, HasReadFolder}
-use Rattle.ot_program.specs.Reply.{RunInput, limits, article_limit, start, outcome, theory_run}
-use Rattle.ot_program.specs.Reply.{standard_run, article_run, run_at, is_standard}
-use Rattle.ot_program.specs.Answer.{FileFailed, IsOwnStop, IsInputStop}
+use Rattle.ot_program.specs.Tasks.{RunInput, is_standard}
+use Rattle.ot_program.specs.Runs.{limits, article_limit, start, outcome, theory_run, standard_run, article_run}
+use Rattle.ot_program.specs.Runs.{run_at, IsOwnStop, IsInputStop}
+use Rattle.ot_program.specs.Answer.{FileFailed}
 use Rattle.ot_program.specs.Verdicts.{End, Finished, Stopped, Failed, end_of, IsAnswer, HasTaskCause, HasTaskEnd}
 use Rattle.ot_program.specs.Verdicts.{HasOwnCause, HasTheoryCause, HasTheoryEnd, IsLawfulEnd, IsLawfulEnds}
 use Rattle.ot_program.specs.declared.task.View.{View}

@@ -10,9 +10,10 @@ use Rattle.ot_print.specs.Laws.{TextsNameOne}
 use Rattle.ot_verify.specs.Reading.{log_check}
 use Rattle.ot_verify.specs.Verifying.{Proved, AreProved, Verifies}
 use Rattle.ot_program.specs.World.{World, HasReadWorld}
-use Rattle.ot_program.specs.Reply.{LogStop, NoLog, CheckLog, is_standard, log_lists, log_end, check_bytes}
-use Rattle.ot_program.specs.Reply.{article_limit, check_file, log_status}
-use Rattle.ot_program.specs.Answer.{IsProved}
+use Rattle.ot_program.specs.Tasks.{CheckLog, is_standard}
+use Rattle.ot_program.specs.Runs.{article_limit}
+use Rattle.ot_program.specs.Command.{IsProved}
+use Rattle.ot_program.specs.CheckLog.{LogStop, NoLog, log_lists, log_end, check_bytes, check_file, log_status}
 use Rattle.ot_program.specs.Verdicts.{End, Finished, log_end_of, IsAnswer, HasCause, HasTaskCause, HasTaskEnd}
 use Rattle.ot_program.specs.Verdicts.{EndsAs, IsVerdictOf}
 use Rattle.ot_program.specs.declared.report.Verdict.{Verdict}

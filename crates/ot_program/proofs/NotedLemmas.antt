@@ -35,11 +35,13 @@ use Rattle.ot_print.specs.Laws.{TextsNameOne}
 use Rattle.ot_pretty.specs.Summary.{ReadBack, hidden_in_run, readable_summary, hidden_at, summary_at}
 use Rattle.ot_program.specs.Texts.{large_line}
 use Rattle.ot_program.specs.World.{World, Every, HasReadWorld}
-use Rattle.ot_program.specs.Reply.{RunInput, ShowReadable, Noted, limits, theory_shown, shown_at, noted, run_at}
-use Rattle.ot_program.specs.Reply.{opened_at, is_standard, readable, notation, assumptions_of}
-use Rattle.ot_program.specs.Reply.{definitions_of, exports_of, run_lists, summary_limit, stop_status}
-use Rattle.ot_program.specs.Answer.{IsProved, IsInputStop, FileFailed, IsFailedPath, LeavesOther}
-use Rattle.ot_program.specs.Answer.{ClosesFiles, AreReadBack}
+use Rattle.ot_program.specs.Tasks.{RunInput, ShowReadable, is_standard}
+use Rattle.ot_program.specs.Runs.{Noted, limits, theory_shown, shown_at, noted, run_at, opened_at, notation}
+use Rattle.ot_program.specs.Runs.{assumptions_of, definitions_of, exports_of, summary_limit, stop_status}
+use Rattle.ot_program.specs.Runs.{IsInputStop}
+use Rattle.ot_program.specs.Command.{run_lists, IsProved, LeavesOther}
+use Rattle.ot_program.specs.ShowReadable.{readable, AreReadBack}
+use Rattle.ot_program.specs.Answer.{FileFailed, ClosesFiles}
 use Rattle.ot_program.specs.Verdicts.{End, Finished, Stopped, Failed, ran_from, noted_from, noted_end, end_at}
 use Rattle.ot_program.specs.Verdicts.{IsAnswer, HasCause, HasTaskCause, HasTaskEnd, IsSaid, IsStopVerdict}
 use Rattle.ot_program.specs.Verdicts.{IsVerdictOf}
@@ -53,6 +55,7 @@ use Rattle.ot_logic.proofs.Members.{IsMember-left, IsMember-right}
 use Rattle.ot_program.proofs.InputLemmas.{theory_stop, no_standard}
 use Rattle.ot_program.proofs.TaskEnds.{task_ended, file_path}
 use Rattle.ot_program.proofs.Worlds.{IsPart, HasFolders, folder_of, folder_then_world, world_of_files}
+use Rattle.ot_program.specs.Reply.{command}
 
 -- ---- what an input shows
 
@@ -210,7 +213,7 @@ stop_cause : (k : State) (e : LinkFault) (packages path : List ℕ) (May : World
     → IfSome (option_map (noted_end []) (end_at k e))
     (HasTaskCause (ShowReadable packages path) May I (FileFailed at f f') (CountRose m m'))
 stop_cause k (faults.Article p line fault) packages path May I at m m' f f' theory comes cause =
-    article_cause (IsInputStop path) (IsFailedPath (ShowReadable packages path) May I (FileFailed at f f'))
+    article_cause (IsInputStop path) ((command (ShowReadable packages path)).IsFailed May I (FileFailed at f f'))
     (CountRose m m') (string_bytes p) line _ (λ g. theory_stop path (InArticle (string_bytes p) line g) theory)
 stop_cause k (faults.Theory p line fault) packages path May I at m m' f f' theory comes cause = (
   theory_stop path (InTheory (string_bytes p) line fault) theory,

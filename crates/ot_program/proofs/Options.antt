@@ -1,7 +1,7 @@
 -- What holds of a value where there is one.
 use Rattle.std.specs.Prelude.{IfOk, IfSome, Result, Ok, Err}
 use Rattle.std.proofs.Common.{◌≡◌, Option, Some, None, sym, subst}
-use Rattle.ot_program.specs.Answer.{HasNoStop}
+use Rattle.ot_program.specs.Command.{HasNoStop}
 
 pub if_some : {X : Type 0} (P Q : X → Type 0) (o : Option X) → ((x : X) → P x → Q x) → IfSome o P → IfSome o Q
 if_some P Q None then holds = tt

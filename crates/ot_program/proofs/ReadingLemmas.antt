@@ -31,10 +31,12 @@ use Rattle.ot_read.specs.Lines.{lines_read, term_read}
 use Rattle.ot_read.specs.Laws.{TermsReadByForms, LinesReadByForms, TextsReadByForms, AreRead, StandFor}
 use Rattle.ot_read.proofs.Alike.{term-alike, lines-alike}
 use Rattle.ot_program.specs.World.{World, Every, HasReadWorld}
-use Rattle.ot_program.specs.Reply.{ShowReadable, ReadLines, Noted, Readings, ReadStop, NoText, TextTooLarge}
-use Rattle.ot_program.specs.Reply.{noted_at, notation, is_standard, text_limit, text_in, read_in, read_at}
-use Rattle.ot_program.specs.Reply.{read_behind}
-use Rattle.ot_program.specs.Answer.{IsResult, LastInput, LastOf}
+use Rattle.ot_program.specs.Tasks.{ShowReadable, ReadLines, is_standard}
+use Rattle.ot_program.specs.Runs.{Noted, noted_at, notation, text_limit}
+use Rattle.ot_program.specs.Command.{LastInput, LastOf}
+use Rattle.ot_program.specs.ReadLines.{Readings, ReadStop, NoText, TextTooLarge, text_in, read_in, read_at}
+use Rattle.ot_program.specs.ReadLines.{read_behind}
+use Rattle.ot_program.specs.Answer.{IsResult}
 use Rattle.ot_program.specs.Verdicts.{End, Finished, Stopped, Failed, IsAnswer, IsTextCause, IsTextRefusal}
 use Rattle.ot_program.specs.Verdicts.{HasTaskCause, HasTaskEnd}
 use Rattle.ot_program.specs.Verdicts.{noted_from, noted_end, stop_end, read_end_of, IsStopVerdict, IsVerdictOf}

@@ -7,36 +7,42 @@ use Rattle.ot_io.specs.Causes.{CountRose}
 use Rattle.ot_io.specs.Sinks.{AppendsFront, FlushesAll}
 use Rattle.ot_args.specs.Grammar.{command_of}
 use Rattle.ot_program.specs.Texts.{usage_line, write_fault_line, memory_line}
-use Rattle.ot_program.specs.Reply.{Reply, accepted, fails, TaskValue, ReadLines, FindPattern, task, task_of}
+use Rattle.ot_program.specs.Tasks.{TaskValue, ReadLines, FindPattern, task, task_of, is_standard}
+use Rattle.ot_program.specs.Tasks.{RunInput, RunSample, MakeSample, CheckLog, ShowReadable}
+use Rattle.ot_program.specs.Command.{IsReadPath}
+use Rattle.ot_program.specs.Reply.{Reply, accepted, fails, reply_to, answer, command}
+use Rattle.ot_program.specs.Answer.{MatchesReply, IsReport, IsStopLine, IsLargeLine, FileFailed, IsFailureLine}
+use Rattle.ot_program.specs.Answer.{WritesLine, Outputs, IsOutput, SaysWhy, IsErrorLine, Failures, IsAnswered}
 use Rattle.ot_program.specs.World.{World, Every}
-use Rattle.ot_program.specs.Reply.{input_of, is_standard, result_of, reply_to, answer}
-use Rattle.ot_program.specs.Answer.{MatchesReply, IsReport, IsStopLine, IsLargeLine, FileFailed, IsReadPath}
-use Rattle.ot_program.specs.Answer.{IsFailedPath, IsFailureLine, WritesLine, Outputs, IsOutput, SaysWhy, IsErrorLine}
-use Rattle.ot_program.specs.Answer.{Failures, IsOpened, IsAnswered}
 use Rattle.ot_program.specs.Verdicts.{IsReplyOf, IsTextOf, IsSilent, Writes, Ends, error_line}
 use Rattle.ot_program.specs.declared.status.Status.{Status}
 use Rattle.ot_program.specs.declared.status.Status.TheVariants.{Accepted, Refused, Usage, NoFile}
 use Rattle.ot_program.specs.declared.status.Status.TheVariants.{ReadFault, WriteFault, Memory}
+use Rattle.ot_program.specs.Samples.{sample_path}
 
 -- ---- a verdict and the stated reply
 
 report_reply : (t : TaskValue) (May : World → Type 0) (text : List ℕ) → IsReport t May text
-    → Every May (λ world. IsReplyOf Accepted text (reply_to t (result_of t world)))
+    → Every May (λ world. IsReplyOf Accepted text (reply_to (command t) ((command t).result world)))
 report_reply t May text report =
-    λ world may. ap (reply_to t) (report.ended world may) ∙ rw report.fits_is (ap accepted (sym report.text_is))
+    λ world may. ap (reply_to (command t)) (report.ended world may)
+    ∙ rw report.fits_is (ap accepted (sym report.text_is))
 
 stop_reply : (t : TaskValue) (status : Status) (May : World → Type 0) (line : List ℕ) → IsStopLine status t May line
-    → Every May (λ world. reply_to t (result_of t world) ≡ fails status line)
+    → Every May (λ world. reply_to (command t) ((command t).result world) ≡ fails status line)
 stop_reply t status May line stop =
-    λ world may. ap (reply_to t) (stop.stopped world may) ∙ (λ i. fails (stop.status_is i) (sym stop.line_is i))
+    λ world may. ap (reply_to (command t)) (stop.stopped world may)
+    ∙ (λ i. fails (stop.status_is i) (sym stop.line_is i))
 
 large_reply : (t : TaskValue) (May : World → Type 0) (line : List ℕ) → IsLargeLine t May line
-    → Every May (λ world. reply_to t (result_of t world) ≡ fails Refused line)
+    → Every May (λ world. reply_to (command t) ((command t).result world) ≡ fails Refused line)
 large_reply t May line large =
-    λ world may. ap (reply_to t) (large.ended world may) ∙ rw large.large (ap (fails Refused) (sym large.line_is))
+    λ world may. ap (reply_to (command t)) (large.ended world may)
+    ∙ rw large.large (ap (fails Refused) (sym large.line_is))
 
 replies : (t : TaskValue) (May : World → Type 0) (I : Type 0) (F : List ℕ → Type 0) (status : Status) (text : List ℕ)
-    → IsTextOf status t May I F text → Every May (λ world. IsReplyOf status text (reply_to t (result_of t world)))
+    → IsTextOf status t May I F text
+    → Every May (λ world. IsReplyOf status text (reply_to (command t) ((command t).result world)))
 replies t May I F Accepted text says = report_reply t May text says
 replies t May I F Refused text (inl stop) = stop_reply t Refused May text stop
 replies t May I F Refused text (inr large) = large_reply t May text large
@@ -52,7 +58,7 @@ replied : (words : List (List ℕ)) (t : TaskValue) (May : World → Type 0) (I 
     → task_of words ≡ Some t → IsTextOf status t May I F text
     → ((reply : Reply) → IsReplyOf status text reply → P reply) → Every May (λ world. P (answer words world))
 replied words t May I F status text P read says then =
-    λ world may. rw read (then (reply_to t (result_of t world)) (replies t May I F status text says world may))
+    λ world may. rw read (then (reply_to (command t) ((command t).result world)) (replies t May I F status text says world may))
 
 -- ---- status, output and the line
 
@@ -210,15 +216,23 @@ no_read_path path N at i j f g failed input all is = go (is_standard path) is wh
 
 no_failed_path : (t : TaskValue) (May : World → Type 0) (at : Option (List ℕ)) (i j f g : ℕ)
     (failed : List ℕ) → ¬ CountRose i j → ¬ CountRose f g
-    → ¬ IsFailedPath t May (CountRose i j) (FileFailed at f g) failed
+    → ¬ (command t).IsFailed May (CountRose i j) (FileFailed at f g) failed
+no_failed_path (RunInput packages path view) May at i j f g failed no_input no_file is =
+    no_read_path path _ at i j f g failed no_input no_file is
+no_failed_path (RunSample n) May at i j f g failed no_input no_file is =
+    no_read_path sample_path _ at i j f g failed no_input no_file is
+no_failed_path (MakeSample n) May at i j f g failed no_input no_file is =
+    no_read_path sample_path _ at i j f g failed no_input no_file is
+no_failed_path (CheckLog path) May at i j f g failed no_input no_file is =
+    no_read_path path _ at i j f g failed no_input no_file is
+no_failed_path (ShowReadable packages path) May at i j f g failed no_input no_file is =
+    no_read_path path _ at i j f g failed no_input no_file is
 no_failed_path (ReadLines packages path text) May at i j f g failed no_input no_file (inl is) =
-    no_read_path path (IsOpened (ReadLines packages path text) May failed) at i j f g failed no_input no_file is
+    no_read_path path _ at i j f g failed no_input no_file is
 no_failed_path (ReadLines packages path text) May at i j f g failed no_input no_file (inr is) = no_file is.2.0
 no_failed_path (FindPattern packages pattern path) May at i j f g failed no_input no_file (inl is) =
-    no_read_path path (IsOpened (FindPattern packages pattern path) May failed) at i j f g failed no_input no_file is.0
+    no_read_path path _ at i j f g failed no_input no_file is.0
 no_failed_path (FindPattern packages pattern path) May at i j f g failed no_input no_file (inr is) = no_file is.2.0
-no_failed_path t May at i j f g failed no_input no_file is =
-    no_read_path (input_of t) (IsOpened t May failed) at i j f g failed no_input no_file is
 
 no_read_fault : (t : TaskValue) (May : World → Type 0) (at : Option (List ℕ)) (verdict : Status)
     (text : List ℕ) (i j f g : ℕ) → ¬ CountRose i j → ¬ CountRose f g

@@ -19,8 +19,9 @@ use Rattle.ot_logic.specs.Trees.{Sequent, Definition}
 use Rattle.ot_print.specs.Texts.{summary_text}
 use Rattle.ot_text.specs.Pages.{Appended}
 use Rattle.ot_program.specs.Texts.{large_line}
-use Rattle.ot_program.specs.Reply.{assumptions_of, definitions_of, exports_of, run_lists, summary, summary_limit}
-use Rattle.ot_program.specs.Answer.{IsProved, AreSupported}
+use Rattle.ot_program.specs.Runs.{assumptions_of, definitions_of, exports_of, summary_limit}
+use Rattle.ot_program.specs.Command.{run_lists, IsProved}
+use Rattle.ot_program.specs.RunInput.{summary, AreSupported}
 use Rattle.ot_program.specs.Verdicts.{ran_from, IsSaid, SummaryEndsAs, IsLawfulEnds}
 use Rattle.ot_program.specs.declared.report.Verdict.{Verdict}
 use Rattle.ot_program.specs.declared.status.Status.TheVariants.{Accepted, Refused}

@@ -8,9 +8,11 @@ use Rattle.ot_link.specs.Blocks.{Ran, article_end}
 use Rattle.ot_sample.specs.Sample.{sample}
 use Rattle.ot_print.specs.Laws.{TextsNameOne}
 use Rattle.ot_program.specs.World.{World}
-use Rattle.ot_program.specs.Reply.{RunSample, sample_path, outcome, run_lists}
-use Rattle.ot_program.specs.Reply.{article_fits, article_text, sample_line}
-use Rattle.ot_program.specs.Answer.{IsProved, IsRewritten}
+use Rattle.ot_program.specs.Tasks.{RunSample}
+use Rattle.ot_program.specs.Runs.{outcome}
+use Rattle.ot_program.specs.Command.{run_lists, IsProved}
+use Rattle.ot_program.specs.RunInput.{article_fits, article_text, IsRewritten}
+use Rattle.ot_program.specs.Samples.{sample_path, sample_line}
 use Rattle.ot_program.specs.Verdicts.{End, Finished, Stopped, Failed, IsAnswer, HasTaskCause, HasTaskEnd}
 use Rattle.ot_program.specs.Verdicts.{HasOwnCause, EndsAs, IsVerdictOf}
 use Rattle.ot_program.specs.declared.report.Verdict.{Verdict}

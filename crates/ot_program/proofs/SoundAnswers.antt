@@ -27,19 +27,22 @@ use Rattle.ot_verify.specs.Verifying.{proved_by}
 use Rattle.ot_read.specs.Lines.{RefusedLine, at_line, term_read, lines_read}
 use Rattle.ot_sample.specs.Sample.{sample}
 use Rattle.ot_program.specs.World.{World}
-use Rattle.ot_program.specs.Reply.{TaskValue, RunInput, RunSample, MakeSample, CheckLog, ShowReadable, ReadLines}
-use Rattle.ot_program.specs.Reply.{FindPattern, result_of, lists_of, run_lists, run_at, standard_run, article_run}
-use Rattle.ot_program.specs.Reply.{theory_run, outcome, is_standard, article_limit, limits, sample_path}
-use Rattle.ot_program.specs.Reply.{Noted, shown_at, noted, noted_at, notation}
-use Rattle.ot_program.specs.Reply.{Readings, ReadStop, text_in, readings, read_under, read_in, read_behind, read_at}
-use Rattle.ot_program.specs.Reply.{PackageRun, Searched, FindStop, InRequired, InRun, InPattern, stops_as, log_lists}
-use Rattle.ot_program.specs.Reply.{package_runs, required_at, search, find_at}
-use Rattle.ot_program.specs.Reply.{log_end, check_bytes, check_file, check_at, NoLog}
-use Rattle.ot_program.specs.Answer.{IsProved}
+use Rattle.ot_program.specs.Tasks.{TaskValue, RunInput, RunSample, MakeSample, CheckLog, ShowReadable}
+use Rattle.ot_program.specs.Tasks.{ReadLines, FindPattern, is_standard}
+use Rattle.ot_program.specs.Runs.{run_at, standard_run, article_run, theory_run, outcome, article_limit}
+use Rattle.ot_program.specs.Runs.{limits, Noted, shown_at, noted, noted_at, notation}
+use Rattle.ot_program.specs.Command.{run_lists, IsProved}
+use Rattle.ot_program.specs.Samples.{sample_path}
+use Rattle.ot_program.specs.CheckLog.{log_lists, log_end, check_bytes, check_file, check_at, NoLog}
+use Rattle.ot_program.specs.ReadLines.{Readings, ReadStop, text_in, readings, read_under, read_in, read_behind}
+use Rattle.ot_program.specs.ReadLines.{read_at}
+use Rattle.ot_program.specs.FindPattern.{PackageRun, Searched, FindStop, InRequired, InRun, InPattern}
+use Rattle.ot_program.specs.FindPattern.{stops_as, package_runs, required_at, search, find_at}
 use Rattle.ot_program.specs.Laws.{AnswersAreSound}
 use Rattle.ot_uses.proofs.Goodness.{if_bind, any_bind}
 use Rattle.ot_program.proofs.FindingLemmas.{ok_more}
 use Rattle.ot_program.proofs.LogLemmas.{log_proved}
+use Rattle.ot_program.specs.Reply.{command}
 
 -- ---- where an answer is made of others
 
@@ -200,7 +203,7 @@ module _ (ends : EndsAreLawful) (sound : LawfulIsSound IsAnyName) where
             any_bind (some_or NoLog (bytes_at world.folder path)) check_bytes (λ p. IsProved (log_lists p))
             log_bytes_proved
 
-    result_proved : (t : TaskValue) (world : World) → IfOk (result_of t world) (λ made. IsProved (lists_of t made))
+    result_proved : (t : TaskValue) (world : World) → IfOk ((command t).result world) (λ made. IsProved ((command t).lists made))
     result_proved (RunInput packages path view) world = run_proved packages path world
     result_proved (RunSample n) world = bytes_proved sample_path (sample n)
     result_proved (MakeSample n) world = record {

@@ -4,9 +4,10 @@ use Rattle.std.specs.Prelude.{Bool, true, false, MatchBool, Option, Some, None, 
 use Rattle.std.specs.Option.{option_map}
 use Rattle.ot_io.specs.Folder.{Folder, bytes_at, path_asked}
 use Rattle.ot_program.specs.World.{World, Every}
-use Rattle.ot_program.specs.Reply.{TaskValue, Product, Halt, result_of, is_standard}
-use Rattle.ot_program.specs.Answer.{IsReadPath}
+use Rattle.ot_program.specs.Tasks.{TaskValue, is_standard}
+use Rattle.ot_program.specs.Command.{IsReadPath}
 use Rattle.ot_program.specs.Verdicts.{End, IsAnswer, HasTaskCause, HasTaskEnd}
+use Rattle.ot_program.specs.Reply.{command}
 
 -- one end is that of each
 pub every_some : {A X : Type 0} (May : A → Type 0) (P : A → X → Type 0) (o : Option X)
@@ -16,8 +17,8 @@ every_some May P (Some e) h = h
 
 -- a task ended so
 pub task_ended : (t : TaskValue) (I : Type 0) (F : List ℕ → Type 0) (M : Type 0) (May : World → Type 0)
-    (o : Option (End (Product t) (Halt t)))
-    → Every May (λ world. IfSome o (IsAnswer (result_of t world))) → IfSome o (HasTaskCause t May I F M)
+    (o : Option (End ((command t).Product) ((command t).Halt)))
+    → Every May (λ world. IfSome o (IsAnswer ((command t).result world))) → IfSome o (HasTaskCause t May I F M)
     → IfSome o (λ e. HasTaskEnd t I F M e May)
 task_ended t I F M May None ended cause = tt
 task_ended t I F M May (Some e) ended cause = record { end = ended; cause = cause }

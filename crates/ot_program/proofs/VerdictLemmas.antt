@@ -4,19 +4,21 @@ use Rattle.std.specs.Prelude.{Bool, true, false, MatchBool, Option, Some, None, 
 use Rattle.ot_repo.specs.Required.{Refusal}
 use Rattle.ot_repo.specs.Required as repo
 use Rattle.ot_link.specs.Stops.{Stop, InArticle, InTheory, InStructure, TooLarge, Missing}
-use Rattle.ot_program.specs.Reply.{TaskValue, RunInput, RunSample, MakeSample, CheckLog, ShowReadable}
-use Rattle.ot_program.specs.Reply.{ReadLines, FindPattern, LogStop, InLog, NoLog, ReadStop, InInput, NoText}
-use Rattle.ot_program.specs.Reply.{TextTooLarge, InLine, FindStop, InRequired, InRun, InPattern}
-use Rattle.ot_program.specs.Reply.{required_status, find_status, over_line, Product, Halt, text_of}
-use Rattle.ot_program.specs.Reply.{fits, stop_status, log_status, read_status, halt_status, halt_line}
+use Rattle.ot_program.specs.Tasks.{TaskValue, RunInput, RunSample, MakeSample, CheckLog, ShowReadable}
+use Rattle.ot_program.specs.Tasks.{ReadLines, FindPattern}
+use Rattle.ot_program.specs.Runs.{stop_status}
+use Rattle.ot_program.specs.CheckLog.{LogStop, InLog, NoLog, log_status}
+use Rattle.ot_program.specs.ReadLines.{ReadStop, InInput, NoText, TextTooLarge, InLine, read_status}
+use Rattle.ot_program.specs.FindPattern.{FindStop, InRequired, InRun, InPattern, required_status, find_status}
+use Rattle.ot_program.specs.Answer.{IsResult, IsStopLine}
 use Rattle.ot_program.specs.World.{World, anywhere}
-use Rattle.ot_program.specs.Answer.{IsResult, IsOwnHalt, IsFailedPath, IsStopLine}
 use Rattle.ot_program.specs.Verdicts.{End, Finished, Stopped, Failed, IsEnd, HasTaskCause, HasTaskEnd}
 use Rattle.ot_program.specs.Verdicts.{IsSaid, IsFinal, IsVerdictOn, IsVerdictOf, IsTextOf, IsTaskVerdict}
 use Rattle.ot_program.specs.declared.report.Verdict.{Verdict}
 use Rattle.ot_program.specs.declared.status.Status.{Status}
 use Rattle.ot_program.specs.declared.status.Status.TheVariants.{Accepted, Refused, Usage, NoFile}
 use Rattle.ot_program.specs.declared.status.Status.TheVariants.{ReadFault, WriteFault, Memory}
+use Rattle.ot_program.specs.Reply.{command}
 
 -- ---- the status of a stop
 
@@ -55,7 +57,7 @@ find_refusal (InRequired r) = required_refusal r
 find_refusal (InRun s) = run_refusal s
 find_refusal (InPattern refused) = inl refl
 
-refusal : (t : TaskValue) (s : Halt t) → IsRefusal (halt_status t s)
+refusal : (t : TaskValue) (s : (command t).Halt) → IsRefusal ((command t).status s)
 refusal (RunInput packages path view) s = run_refusal s
 refusal (RunSample n) s = run_refusal s
 refusal (MakeSample n) s = inl refl
@@ -67,9 +69,9 @@ refusal (FindPattern packages pattern path) s = find_refusal s
 -- ---- what the text of a verdict says
 
 -- the line of a stop
-stop_says : (t : TaskValue) (May : World → Type 0) (I : Type 0) (F : List ℕ → Type 0) (s : Halt t) (line : List ℕ)
-    → line ≡ halt_line t s → IsResult t May (Err s) → IsOwnHalt t s
-    → IsRefusal (halt_status t s) → IsTextOf (halt_status t s) t May I F line
+stop_says : (t : TaskValue) (May : World → Type 0) (I : Type 0) (F : List ℕ → Type 0) (s : (command t).Halt) (line : List ℕ)
+    → line ≡ (command t).line s → IsResult t May (Err s) → (command t).IsOwn s
+    → IsRefusal ((command t).status s) → IsTextOf ((command t).status s) t May I F line
 stop_says t May I F s line is known own (inl e) =
     let P : Status → Type 0 = λ status. IsTextOf status t May I F line in
     subst P (sym e) (inl (record { stop = s; stopped = known; own = own; status_is = e; line_is = is }))
@@ -78,9 +80,9 @@ stop_says t May I F s line is known own (inr e) =
     subst P (sym e) (record { stop = s; stopped = known; own = own; status_is = e; line_is = is })
 
 -- the text of a task that ended, by whether it is within the limit
-final_says : (t : TaskValue) (May : World → Type 0) (I : Type 0) (F : List ℕ → Type 0) (x : Product t) (v : Verdict)
+final_says : (t : TaskValue) (May : World → Type 0) (I : Type 0) (F : List ℕ → Type 0) (x : (command t).Product) (v : Verdict)
     (b : Bool)
-    → fits t x ≡ b → MatchBool b (IsSaid v Accepted (text_of t x)) (IsSaid v Refused (over_line t))
+    → (command t).fits x ≡ b → MatchBool b (IsSaid v Accepted ((command t).text x)) (IsSaid v Refused ((command t).large))
     → IsFinal t x v → IsResult t May (Ok x) → IsTextOf v.status t May I F v.text.items
 final_says t May I F x v true fit said final known =
     let P : Status → Type 0 = λ s. IsTextOf s t May I F v.text.items in
@@ -104,10 +106,10 @@ final_says t May I F x v false fit said final known =
     }))
 
 verdict_says : (t : TaskValue) (May : World → Type 0) (I : Type 0) (F : List ℕ → Type 0) (Q : Type 0)
-    (e : End (Product t) (Halt t)) (v : Verdict)
+    (e : End ((command t).Product) ((command t).Halt)) (v : Verdict)
     → IsVerdictOn t v e → IsEnd t May e → HasTaskCause t May I F Q e → IsTextOf v.status t May I F v.text.items
 verdict_says t May I F Q (Finished x) v on known cause =
-    final_says t May I F x v (fits t x) refl on.ends on known
+    final_says t May I F x v ((command t).fits x) refl on.ends on known
 verdict_says t May I F Q (Stopped s) v on known cause =
     let P : Status → Type 0 = λ status. IsTextOf status t May I F v.text.items in
     subst P (sym on.status_is) (stop_says t May I F s v.text.items on.text_is known cause.0 (refusal t s))
@@ -128,10 +130,10 @@ not_missing s (inl accepted) is = let h : Accepted ≡ NoFile = sym accepted ∙
 not_missing s (inr refused) is = let h : Refused ≡ NoFile = sym refused ∙ is in absurd cc
 
 missing_on : (t : TaskValue) (May : World → Type 0) (I : Type 0) (F : List ℕ → Type 0) (Q : Type 0) (v : Verdict)
-    (e : End (Product t) (Halt t))
+    (e : End ((command t).Product) ((command t).Halt))
     → IsVerdictOn t v e → HasTaskCause t May I F Q e → v.status ≡ NoFile → Q
 missing_on t May I F Q v (Finished x) on cause is =
-    not_missing v.status (ended_status v (fits t x) _ _ on.ends) is
+    not_missing v.status (ended_status v ((command t).fits x) _ _ on.ends) is
 missing_on t May I F Q v (Stopped s) on cause is = cause.1 (sym on.status_is ∙ is)
 missing_on t May I F Q v (Failed path) on cause is =
     let h : ReadFault ≡ NoFile = sym on.status_is ∙ is in absurd cc
@@ -139,7 +141,7 @@ missing_on t May I F Q v (Failed path) on cause is =
 -- ---- the verdict on a task
 
 pub task_verdict : {E : Type 0} (I : Type 0) (F : List ℕ → Type 0) (Q : Type 0) (t : TaskValue)
-    (May : World → Type 0) (o : Option (End (Product t) (Halt t))) (r : Result Verdict E)
+    (May : World → Type 0) (o : Option (End ((command t).Product) ((command t).Halt))) (r : Result Verdict E)
     → IfOk r (IsVerdictOf t o) → IfSome o (λ e. HasTaskEnd t I F Q e May) → IfOk r (λ v. IsTaskVerdict t I F Q v May)
 task_verdict I F Q t May o (Err e) on ended = tt
 task_verdict I F Q t May None (Ok v) on ended = absurd on
@@ -149,7 +151,7 @@ task_verdict I F Q t May (Some e) (Ok v) on ended = record {
 }
 
 -- what holds where the end is known
-pub last_path : {E : Type 0} (P : Type 0) (t : TaskValue) (o : Option (End (Product t) (Halt t)))
+pub last_path : {E : Type 0} (P : Type 0) (t : TaskValue) (o : Option (End ((command t).Product) ((command t).Halt)))
     (r : Result Verdict E) → IfOk r (IsVerdictOf t o) → IfSome o (λ _. P) → IfOk r (λ v. P)
 last_path P t o (Err e) on last = tt
 last_path P t None (Ok v) on last = absurd on
@@ -169,7 +171,7 @@ stop_anywhere t status May line h = record {
 -- what reads nothing ends in one way in any world, and names no path that failed
 unfailing_says : (I : Type 0) (F : List ℕ → Type 0) (t : TaskValue) (May : World → Type 0) (status : Status)
     (text : List ℕ)
-    → ((failed : List ℕ) → ¬ IsFailedPath t anywhere ⊥ (λ file. ⊥) failed)
+    → ((failed : List ℕ) → ¬ (command t).IsFailed anywhere ⊥ (λ file. ⊥) failed)
     → IsTextOf status t anywhere ⊥ (λ file. ⊥) text → IsTextOf status t May I F text
 unfailing_says I F t May Accepted text unfailing says = record {
   made = says.made;
@@ -197,7 +199,7 @@ unfailing_says I F t May Memory text unfailing says = absurd says
 -- and none was counted missing
 pub unfailing : {E : Type 0} (I : Type 0) (F : List ℕ → Type 0) (Q : Type 0) (t : TaskValue)
     (May : World → Type 0) (r : Result Verdict E)
-    → ((failed : List ℕ) → ¬ IsFailedPath t anywhere ⊥ (λ file. ⊥) failed)
+    → ((failed : List ℕ) → ¬ (command t).IsFailed anywhere ⊥ (λ file. ⊥) failed)
     → IfOk r (λ v. IsTaskVerdict t ⊥ (λ file. ⊥) ⊥ v anywhere) → IfOk r (λ v. IsTaskVerdict t I F Q v May)
 unfailing I F Q t May (Err e) none h = tt
 unfailing I F Q t May (Ok v) none h = record {

@@ -42,17 +42,20 @@ use Rattle.ot_verify.specs.Verifying.{Proved}
 use Rattle.ot_program.specs.Texts.{stop_line, required_line, column_line, large_line, large_article_line}
 use Rattle.ot_program.specs.Texts.{large_log_line, read_fault_line, write_fault_line}
 use Rattle.ot_program.specs.World.{World, Every}
-use Rattle.ot_program.specs.Reply.{Reply, accepted, fails, TaskValue, RunInput, RunSample, MakeSample}
-use Rattle.ot_program.specs.Reply.{CheckLog, ShowReadable, ReadLines, FindPattern, LogStop, InLog, NoLog}
-use Rattle.ot_program.specs.Reply.{ReadStop, InInput, NoText, TextTooLarge, InLine, Readings, PackageRun}
-use Rattle.ot_program.specs.Reply.{Searched, package_runs, required_at, sources, found, limits, theory_run}
-use Rattle.ot_program.specs.Reply.{notation, exports_of, run_lists, pattern_path, required_status}
-use Rattle.ot_program.specs.Reply.{find_status, find_line, Noted, readable, Product, Halt, result_of, text_of}
-use Rattle.ot_program.specs.Reply.{fits, article_text, article_fits, log_text, log_fits, lists_of, summary}
-use Rattle.ot_program.specs.Reply.{uses, summary_limit, over_line, stop_status, halt_status, halt_line}
-use Rattle.ot_program.specs.Answer.{IsProved, IsPromisedBy, IsSearch, IsOwnStop, IsInputStop}
-use Rattle.ot_program.specs.Answer.{IsFindStop, IsOwnHalt, IsFailedPath, IsResult, IsReport, IsStopLine}
-use Rattle.ot_program.specs.Answer.{IsLargeLine, IsFailureLine}
+use Rattle.ot_program.specs.Tasks.{TaskValue, RunInput, RunSample, MakeSample, CheckLog, ShowReadable}
+use Rattle.ot_program.specs.Tasks.{ReadLines, FindPattern}
+use Rattle.ot_program.specs.Runs.{limits, theory_run, notation, exports_of, Noted, summary_limit, stop_status}
+use Rattle.ot_program.specs.Runs.{IsOwnStop, IsInputStop}
+use Rattle.ot_program.specs.Command.{run_lists, IsProved}
+use Rattle.ot_program.specs.RunInput.{article_text, article_fits, log_text, log_fits, summary, uses}
+use Rattle.ot_program.specs.CheckLog.{LogStop, InLog, NoLog}
+use Rattle.ot_program.specs.ShowReadable.{readable}
+use Rattle.ot_program.specs.ReadLines.{ReadStop, InInput, NoText, TextTooLarge, InLine, Readings}
+use Rattle.ot_program.specs.FindPattern.{PackageRun, Searched, package_runs, required_at, sources, found}
+use Rattle.ot_program.specs.FindPattern.{pattern_path, required_status, find_status, find_line, IsSearch}
+use Rattle.ot_program.specs.FindPattern.{IsFindStop}
+use Rattle.ot_program.specs.Reply.{Reply, accepted, fails, command}
+use Rattle.ot_program.specs.Answer.{IsResult, IsReport, IsStopLine, IsLargeLine, IsFailureLine}
 use Rattle.ot_program.specs.declared.status.Status.{Status}
 use Rattle.ot_program.specs.declared.status.Status.TheVariants.{Accepted, Refused, Usage, NoFile}
 use Rattle.ot_program.specs.declared.status.Status.TheVariants.{ReadFault, WriteFault, Memory}
@@ -204,8 +207,8 @@ IsAnswer answer (Stopped s) = answer ≡ Err s
 IsAnswer answer (Failed path) = Unit {0}
 
 -- it is the end of the task in each world that may be
-abbrev pub IsEnd : (t : TaskValue) → (May : World → Type 0) → End (Product t) (Halt t) → Type 0
-IsEnd t May e = Every May (λ world. IsAnswer (result_of t world) e)
+abbrev pub IsEnd : (t : TaskValue) → (May : World → Type 0) → End ((command t).Product) ((command t).Halt) → Type 0
+IsEnd t May e = Every May (λ world. IsAnswer ((command t).result world) e)
 
 -- why there is such an end: a stop is one of `Own`, and where its status is `NoFile` a missing file was counted; a path
 -- that failed is one of `Failing`
@@ -217,13 +220,13 @@ HasCause status Own Failing MissRose (Failed path) = Failing path
 
 -- why a task ends so: at a stop of its own, or at a path that it reads
 abbrev pub HasTaskCause : (t : TaskValue) → (May : World → Type 0) → (InputFails : Type 0)
-    → (FileFails : List ℕ → Type 0) → (MissRose : Type 0) → End (Product t) (Halt t) → Type 0
+    → (FileFails : List ℕ → Type 0) → (MissRose : Type 0) → End ((command t).Product) ((command t).Halt) → Type 0
 HasTaskCause t May InputFails FileFails =
-    HasCause (halt_status t) (IsOwnHalt t) (IsFailedPath t May InputFails FileFails)
+    HasCause ((command t).status) ((command t).IsOwn) ((command t).IsFailed May InputFails FileFails)
 
 -- a task ended so, in each world that may be, and for a cause
 pub record HasTaskEnd (t : TaskValue) (InputFails : Type 0) (FileFails : List ℕ → Type 0) (MissRose : Type 0)
-    (e : End (Product t) (Halt t)) (May : World → Type 0) : Type 0 where
+    (e : End ((command t).Product) ((command t).Halt)) (May : World → Type 0) : Type 0 where
   pub end : IsEnd t May e
   pub cause : HasTaskCause t May InputFails FileFails MissRose e
 
@@ -252,8 +255,8 @@ pub record IsSaid (v : Verdict) (status : Status) (text : List ℕ) : Type 0 whe
   pub text_is : v.text.items ≡ text
 
 -- a task that ended is accepted with what it prints, or refused where that is too large
-abbrev pub EndsAs : (t : TaskValue) → Product t → Verdict → Type 0
-EndsAs t x v = MatchBool (fits t x) (IsSaid v Accepted (text_of t x)) (IsSaid v Refused (over_line t))
+abbrev pub EndsAs : (t : TaskValue) → (command t).Product → Verdict → Type 0
+EndsAs t x v = MatchBool ((command t).fits x) (IsSaid v Accepted ((command t).text x)) (IsSaid v Refused ((command t).large))
 
 -- the sections of a run's summary, where the input has this path
 abbrev pub SummaryEndsAs : List ℕ → Sections → Ran → Verdict → Type 0
@@ -296,10 +299,10 @@ abbrev pub IsLawfulEnd : Session → Vec Export Global → Type 0
 IsLawfulEnd s exports = IsLawfulEnds s exports.items
 
 -- a verdict says how the task ended, and its result is proved
-pub record IsFinal (t : TaskValue) (x : Product t) (v : Verdict) : Type 0 where
+pub record IsFinal (t : TaskValue) (x : (command t).Product) (v : Verdict) : Type 0 where
   pub ends : EndsAs t x v
-  pub proved : IsProved (lists_of t x)
-  pub promised : fits t x ≡ true → IsPromisedBy t x
+  pub proved : IsProved ((command t).lists x)
+  pub promised : (command t).fits x ≡ true → (command t).IsPromised x
   pub one_text : TextsNameOne
 
 -- the verdict on a run that stopped or failed
@@ -309,13 +312,13 @@ IsStopVerdict v (Stopped s) = IsSaid v (stop_status s) (stop_line s)
 IsStopVerdict v (Failed path) = IsSaid v ReadFault (read_fault_line path)
 
 -- the verdict on a task that ended so
-abbrev pub IsVerdictOn : (t : TaskValue) → Verdict → End (Product t) (Halt t) → Type 0
+abbrev pub IsVerdictOn : (t : TaskValue) → Verdict → End ((command t).Product) ((command t).Halt) → Type 0
 IsVerdictOn t v (Finished x) = IsFinal t x v
-IsVerdictOn t v (Stopped s) = IsSaid v (halt_status t s) (halt_line t s)
+IsVerdictOn t v (Stopped s) = IsSaid v ((command t).status s) ((command t).line s)
 IsVerdictOn t v (Failed path) = IsSaid v ReadFault (read_fault_line path)
 
 -- there is such an end, and the verdict is on it
-abbrev pub IsVerdictOf : (t : TaskValue) → Option (End (Product t) (Halt t)) → Verdict → Type 0
+abbrev pub IsVerdictOf : (t : TaskValue) → Option (End ((command t).Product) ((command t).Halt)) → Verdict → Type 0
 IsVerdictOf t known v = IsSomeAnd known (IsVerdictOn t v)
 
 -- the text of a verdict with this status
@@ -400,7 +403,7 @@ abbrev pub HasEndedInput : (packages path : List ℕ) → (InputFails : Type 0) 
     → (MissRose : Type 0) → Verdict → (May : World → Type 0) → Type 0
 HasEndedInput packages path InputFails FileFails MissRose v May =
     HasEnded (IsResult (ShowReadable packages path) May) stop_status stop_line (IsInputStop path)
-    (IsFailedPath (ShowReadable packages path) May InputFails FileFails) MissRose v
+    ((command (ShowReadable packages path)).IsFailed May InputFails FileFails) MissRose v
 
 -- the pattern ended it
 abbrev pub HasEndedPattern : Noted → (pattern : List ℕ) → Verdict → Type 0
@@ -513,7 +516,7 @@ abbrev pub HasEndedSearch : (packages pattern path : List ℕ) → (InputFails :
     → (MissRose : Type 0) → Verdict → (May : World → Type 0) → Type 0
 HasEndedSearch packages pattern path InputFails FileFails MissRose v May =
     HasEnded (IsResult (FindPattern packages pattern path) May) find_status find_line (IsFindStop path)
-    (IsFailedPath (FindPattern packages pattern path) May InputFails FileFails) MissRose v
+    ((command (FindPattern packages pattern path)).IsFailed May InputFails FileFails) MissRose v
 
 -- ---- what the parts of a search answer
 

@@ -9,10 +9,13 @@ ghost use Rattle.ot_link.specs.Answers.{AreExportsIn, NamesSymbolIn};
 ghost use Rattle.ot_machine.specs.States.{fresh_run};
 ghost use Rattle.ot_machine.specs.Meaning.{run_of, IsRun};
 ghost use Rattle.ot_program.specs.World.{HasReadWorld, HasReadFolder, EachTold};
-ghost use Rattle.ot_program.specs.Reply.{outcome, article_run, is_standard};
-ghost use Rattle.ot_program.specs.Answer.{FileFailed, LeavesOther, LastPath, ClosesFiles};
+ghost use Rattle.ot_program.specs.Tasks.{is_standard};
+ghost use Rattle.ot_program.specs.Runs.{outcome, article_run};
+ghost use Rattle.ot_program.specs.Command.{LeavesOther};
+ghost use Rattle.ot_program.specs.Answer.{FileFailed, ClosesFiles};
 ghost use Rattle.ot_program.specs.Verdicts.{job_task, end_of, IsAnswer};
 ghost use Rattle.ot_program.specs.Verdicts.{HasTaskEnd, HasOwnCause, HasTheoryEnd, IsLawfulEnd};
+ghost use Rattle.ot_program.specs.Reply.{command};
 
 use crate::task::Job;
 use ot_args::is_theory;
@@ -50,7 +53,7 @@ pub fn run_input<F: Files, S: Source>(
     ensures source { KeepsSource S.folder S.faults S.misses S.at input.old input.new }
     ensures other { LeavesOther job.entry.path.now files.old files.new input.old input.new }
     ensures at { IfSome (end_of session.new result)
-        (λ _. LastPath (job_task job.entry) (F.folder files.old) (F.at files.new)) }
+        (λ _. (command (job_task job.entry)).Last (F.folder files.old) (F.at files.new)) }
 {
     let path = job.path;
     if path == STANDARD {

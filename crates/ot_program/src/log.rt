@@ -7,9 +7,12 @@ ghost use Rattle.ot_io.specs.Reading.{HasRead};
 ghost use Rattle.ot_io.specs.Readings.{HasReadFiles};
 ghost use Rattle.ot_verify.specs.Verifying.{AreProved};
 ghost use Rattle.ot_program.specs.World.{HasReadWorld, EachTold};
-ghost use Rattle.ot_program.specs.Reply.{CheckLog, check_bytes, check_file, log_status, is_standard};
-ghost use Rattle.ot_program.specs.Answer.{FileFailed, LeavesOther, LastPath, ClosesFiles};
+ghost use Rattle.ot_program.specs.Tasks.{CheckLog, is_standard};
+ghost use Rattle.ot_program.specs.Command.{LeavesOther};
+ghost use Rattle.ot_program.specs.CheckLog.{check_bytes, check_file, log_status};
+ghost use Rattle.ot_program.specs.Answer.{FileFailed, ClosesFiles};
 ghost use Rattle.ot_program.specs.Verdicts.{log_end_of, IsAnswer, HasCause, HasTaskEnd};
+ghost use Rattle.ot_program.specs.Reply.{command};
 
 use crate::input::STANDARD;
 use ot_io::{Files, OpenFault, Source};
@@ -48,7 +51,7 @@ pub fn check_log<F: Files, S: Source>(
     ensures source { KeepsSource S.folder S.faults S.misses S.at input.old input.new }
     ensures other { LeavesOther path.now files.old files.new input.old input.new }
     ensures at { IfSome (log_end_of path.now result)
-        (λ _. LastPath (CheckLog path.now) (F.folder files.old) (F.at files.new)) }
+        (λ _. (command (CheckLog path.now)).Last (F.folder files.old) (F.at files.new)) }
 {
     if path == STANDARD {
         check_source(alloc, input)

@@ -10,8 +10,10 @@ ghost use Rattle.ot_machine.specs.Meaning.{run_of, IsRun, IsExportIn};
 ghost use Rattle.ot_machine.specs.States.{fresh_run};
 ghost use Rattle.ot_args.specs.Grammar.{is_theory};
 ghost use Rattle.ot_program.specs.World.{HasReadWorld, EachTold};
-ghost use Rattle.ot_program.specs.Reply.{ShowReadable, shown_at, is_standard};
-ghost use Rattle.ot_program.specs.Answer.{FileFailed, LeavesOther, LastInput, ClosesFiles};
+ghost use Rattle.ot_program.specs.Tasks.{ShowReadable, is_standard};
+ghost use Rattle.ot_program.specs.Runs.{shown_at};
+ghost use Rattle.ot_program.specs.Command.{LeavesOther, LastInput};
+ghost use Rattle.ot_program.specs.Answer.{FileFailed, ClosesFiles};
 ghost use Rattle.ot_program.specs.Verdicts.{noted_end_of, HasTaskEnd, IsLawfulEnds};
 
 use crate::input::run_input;

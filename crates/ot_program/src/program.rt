@@ -5,10 +5,11 @@ ghost use Rattle.ot_io.specs.Keeping.{KeepsSource};
 ghost use Rattle.ot_io.specs.Sinks.{FlushesAll, AppendsFront};
 ghost use Rattle.ot_args.specs.Grammar.{texts_of, command_of};
 ghost use Rattle.ot_program.specs.World.{HasReadWorld, EachTold};
-ghost use Rattle.ot_program.specs.Reply.{task_of};
-ghost use Rattle.ot_program.specs.Answer.{IsAnswered, WritesLine, FileFailed, AsksNoFile, NoFileIsAsked};
-ghost use Rattle.ot_program.specs.Answer.{LeavesAlone, LeavesUnasked, LastPath, ClosesFiles};
+ghost use Rattle.ot_program.specs.Tasks.{task_of};
+ghost use Rattle.ot_program.specs.Answer.{IsAnswered, WritesLine, FileFailed, NoFileIsAsked, LeavesUnasked};
+ghost use Rattle.ot_program.specs.Answer.{ClosesFiles};
 ghost use Rattle.ot_program.specs.Verdicts.{task_value, IsSized, IsTaskVerdict, IsSilent, Writes, Ends, error_line};
+ghost use Rattle.ot_program.specs.Reply.{command};
 
 use crate::finding::{Query, run_finding};
 use crate::input::run_input;
@@ -80,7 +81,7 @@ pub fn run<F: Files, S: Source, O: Sink, E: Sink>(
         }) O.written O.flushed out.old out.new E.written E.faults err.old err.new)) }
     // With 3 and 4 the path asked for last is the one that the words name, where that is an article's, a log's or a text's.
     ensures at { (result ≡ Status.NoFile) ⊎ (result ≡ Status.ReadFault)
-        → IfSome (task_of (texts_of words.now)) (λ t. LastPath t (F.folder files.old) (F.at files.new)) }
+        → IfSome (task_of (texts_of words.now)) (λ t. (command t).Last (F.folder files.old) (F.at files.new)) }
 
     // What the words don't ask for is left alone, counts never fall, and no file that was opened stays open.
     ensures other { LeavesUnasked (task_of (texts_of words.now)) files.old files.new input.old input.new }
@@ -112,16 +113,16 @@ fn run_task<F: Files, S: Source>(
     input: &mut S,
 ) -> Result<Verdict, Memory>
     requires { IsSized (task_value task) }
-    ensures verdict { EachTold (AsksNoFile (task_value task.entry)) (F.folder files.old)
+    ensures verdict { EachTold ((command (task_value task.entry)).AsksNoFile) (F.folder files.old)
         (λ told. HasReadWorld told (S.left input.old) (S.left input.new)
         (λ May. IfOk result (λ v. IsTaskVerdict (task_value task.entry)
         (CountRose (S.faults input.old) (S.faults input.new))
         (FileFailed (F.at files.new) (F.faults files.old) (F.faults files.new))
         (CountRose (F.misses files.old) (F.misses files.new)) v May))) }
-    ensures at { IfOk result (λ _. LastPath (task_value task.entry) (F.folder files.old) (F.at files.new)) }
+    ensures at { IfOk result (λ _. (command (task_value task.entry)).Last (F.folder files.old) (F.at files.new)) }
     ensures files { ClosesFiles F.folder F.faults F.misses F.left files.old files.new }
     ensures source { KeepsSource S.folder S.faults S.misses S.at input.old input.new }
-    ensures other { LeavesAlone (task_value task.entry) files.old files.new input.old input.new }
+    ensures other { (command (task_value task.entry)).Leaves files.old files.new input.old input.new }
 {
     match task {
         Task::RunInput(job) => {

@@ -3,8 +3,9 @@ ghost use Rattle.std.specs.Prelude.{◌≡◌, true, List, length, nat_le, IfOk,
 ghost use Rattle.std.specs.List.{All};
 ghost use Rattle.ot_link.specs.Answers.{NamesSymbolIn};
 ghost use Rattle.ot_machine.specs.Meaning.{IsRun, IsExportIn};
-ghost use Rattle.ot_program.specs.Reply.{ShowReadable, readable, summary_limit};
-ghost use Rattle.ot_program.specs.Answer.{AreReadBack};
+ghost use Rattle.ot_program.specs.Tasks.{ShowReadable};
+ghost use Rattle.ot_program.specs.Runs.{summary_limit};
+ghost use Rattle.ot_program.specs.ShowReadable.{readable, AreReadBack};
 ghost use Rattle.ot_program.specs.Verdicts.{noted_from, noted_end_of, IsVerdictOf, ReadableEndsAs};
 
 use crate::noted::NotedRun;

@@ -11,10 +11,13 @@ ghost use Rattle.ot_theory.specs.Lines.{lines_of};
 ghost use Rattle.ot_read.specs.Laws.{StandFor};
 ghost use Rattle.ot_read.specs.Lines.{lines_read, IsLineRefusal};
 ghost use Rattle.ot_program.specs.World.{HasReadWorld};
-ghost use Rattle.ot_program.specs.Reply.{ReadLines, notation, read_in, text_in};
-ghost use Rattle.ot_program.specs.Answer.{FileFailed, LeavesAlone, LastPath, ClosesFiles};
+ghost use Rattle.ot_program.specs.Tasks.{ReadLines};
+ghost use Rattle.ot_program.specs.Runs.{notation};
+ghost use Rattle.ot_program.specs.ReadLines.{read_in, text_in};
+ghost use Rattle.ot_program.specs.Answer.{FileFailed, ClosesFiles};
 ghost use Rattle.ot_program.specs.Verdicts.{noted_of, read_end_of, IsAnswer, IsVerdictOf};
 ghost use Rattle.ot_program.specs.Verdicts.{IsTextRefusal, IsTextCause, IsPrintedAs, IsTaskVerdict};
+ghost use Rattle.ot_program.specs.Reply.{command};
 
 use crate::noted::{NotedRun, run_noted};
 use crate::report::{
@@ -74,10 +77,10 @@ pub fn run_reading<F: Files, S: Source>(
         (FileFailed (F.at files.new) (F.faults files.old) (F.faults files.new))
         (CountRose (F.misses files.old) (F.misses files.new)) v May)) }
     ensures at { IfOk result
-        (λ _. LastPath (ReadLines packages.now path.now text.now) (F.folder files.old) (F.at files.new)) }
+        (λ _. (command (ReadLines packages.now path.now text.now)).Last (F.folder files.old) (F.at files.new)) }
     ensures files { ClosesFiles F.folder F.faults F.misses F.left files.old files.new }
     ensures source { KeepsSource S.folder S.faults S.misses S.at input.old input.new }
-    ensures other { LeavesAlone (ReadLines packages.now path.now text.now) files.old files.new input.old input.new }
+    ensures other { (command (ReadLines packages.now path.now text.now)).Leaves files.old files.new input.old input.new }
 {
     let mut session = Session::new(alloc)?;
     match run_noted(alloc, &mut session, packages, path, files, input) {

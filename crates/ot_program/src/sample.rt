@@ -1,7 +1,7 @@
 //! The sample: an article of a size that is made, run and rewritten.
 ghost use Rattle.std.specs.Prelude.{◌≤◌, IfOk};
 ghost use Rattle.ot_program.specs.World.{anywhere};
-ghost use Rattle.ot_program.specs.Reply.{RunSample, MakeSample};
+ghost use Rattle.ot_program.specs.Tasks.{RunSample, MakeSample};
 ghost use Rattle.ot_program.specs.Verdicts.{IsTaskVerdict};
 
 use crate::input::run_article;

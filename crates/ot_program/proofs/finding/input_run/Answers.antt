@@ -1,7 +1,8 @@
 use Rattle.std.proofs.Common.{ℕ, List}
 use Rattle.std.specs.Prelude.{IsSomeAnd}
 use Rattle.ot_io.specs.Causes.{CountRose}
-use Rattle.ot_program.specs.Answer.{FileFailed, LastInput}
+use Rattle.ot_program.specs.Command.{LastInput}
+use Rattle.ot_program.specs.Answer.{FileFailed}
 use Rattle.ot_program.specs.Verdicts.{end_at, IsStopVerdict}
 use Rattle.ot_program.proofs.Worlds.{world_map}
 use Rattle.ot_program.proofs.FindingLemmas.{ends_by, input_stopped, input_last}

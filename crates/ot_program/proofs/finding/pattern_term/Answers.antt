@@ -5,7 +5,8 @@ use Rattle.ot_logic.specs.PlainTrees.{term_of_tree}
 use Rattle.ot_parse.specs.Refused.{IsTermRefusal}
 use Rattle.ot_parse.specs.declared.refusal.ReadRefusal.TheVariants.{At}
 use Rattle.ot_read.specs.Lines.{term_read}
-use Rattle.ot_program.specs.Reply.{notation, pattern_path}
+use Rattle.ot_program.specs.Runs.{notation}
+use Rattle.ot_program.specs.FindPattern.{pattern_path}
 use Rattle.ot_program.specs.Texts.{column_line}
 use Rattle.ot_program.specs.Verdicts.{noted_from, noted_of, HasEndedPattern, IsPattern, IsSaid}
 use Rattle.ot_program.specs.declared.status.Status.TheVariants.{Refused}

@@ -1,7 +1,8 @@
 use Rattle.std.proofs.Common.{ℕ, List, subst}
 use Rattle.std.specs.Prelude.{Err}
 use Rattle.ot_io.specs.Causes.{CountRose}
-use Rattle.ot_program.specs.Answer.{FileFailed, LastInput}
+use Rattle.ot_program.specs.Command.{LastInput}
+use Rattle.ot_program.specs.Answer.{FileFailed}
 use Rattle.ot_program.specs.Verdicts.{EndsSearch, IfEnded}
 use Rattle.ot_program.specs.declared.finding.Ending.{Ending}
 use Rattle.ot_program.proofs.Options.{ok_always}

@@ -3,7 +3,7 @@ use Rattle.std.specs.Prelude.{IsOk, IfSome, string_bytes}
 use Rattle.ot_io.specs.Reading.{HasRead}
 use Rattle.ot_io.proofs.Readings.{Files-none}
 use Rattle.ot_link.specs.Blocks.{article_end}
-use Rattle.ot_program.specs.Reply.{outcome}
+use Rattle.ot_program.specs.Runs.{outcome}
 use Rattle.ot_program.specs.Verdicts.{end_of, IsAnswer}
 use Rattle.ot_program.proofs.InputLemmas.{opened_ran, missing_ran}
 use Rattle.ot_program.proofs.input.run_file.Goals as goal

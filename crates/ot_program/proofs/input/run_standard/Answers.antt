@@ -2,7 +2,7 @@ use Rattle.std.proofs.Common.{List, ℕ, subst}
 use Rattle.std.specs.Prelude.{IsOk, IfSome}
 use Rattle.ot_io.specs.Reading.{HasRead}
 use Rattle.ot_link.specs.Blocks.{article_end}
-use Rattle.ot_program.specs.Reply.{outcome}
+use Rattle.ot_program.specs.Runs.{outcome}
 use Rattle.ot_program.specs.Verdicts.{end_of, IsAnswer}
 use Rattle.ot_program.proofs.input.run_standard.Goals as goal
 

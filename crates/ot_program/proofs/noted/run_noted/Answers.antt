@@ -9,7 +9,8 @@ use Rattle.ot_link.specs.Stops.{Stop}
 use Rattle.ot_link.specs.declared.fault.LinkFault.{LinkFault}
 use Rattle.ot_machine.specs.declared.machine.Export.{Export}
 use Rattle.ot_program.specs.World.{HasReadWorld}
-use Rattle.ot_program.specs.Reply.{ShowReadable, Noted, shown_at, is_standard}
+use Rattle.ot_program.specs.Tasks.{ShowReadable, is_standard}
+use Rattle.ot_program.specs.Runs.{Noted, shown_at}
 use Rattle.ot_program.specs.Answer.{FileFailed}
 use Rattle.ot_program.specs.Verdicts.{End, end_of, noted_end, HasTaskEnd}
 use Rattle.ot_program.specs.declared.task.View.TheVariants.{Counts}

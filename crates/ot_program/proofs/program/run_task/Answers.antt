@@ -1,8 +1,8 @@
 use Rattle.std.proofs.Common.{ℕ, List}
 use Rattle.std.proofs.lemmas.Result.{err_from_is_err_and}
 use Rattle.ot_io.specs.Causes.{CountRose}
-use Rattle.ot_program.specs.Reply.{RunSample, MakeSample, CheckLog, ShowReadable}
-use Rattle.ot_program.specs.Answer.{FileFailed, LastPath}
+use Rattle.ot_program.specs.Tasks.{RunSample, MakeSample, CheckLog, ShowReadable}
+use Rattle.ot_program.specs.Answer.{FileFailed}
 use Rattle.ot_program.specs.Verdicts.{job_task, end_of, noted_end_of, log_end_of}
 use Rattle.ot_program.proofs.Options.{ok_always}
 use Rattle.ot_program.proofs.Worlds.{is_told, world_map, world_none}

@@ -1,8 +1,8 @@
 use Rattle.std.specs.Prelude.{true, nat_le, IfOk, OnOk}
 use Rattle.std.proofs.Common.{◌≡◌, ◌∙◌, ap, subst, List, length, map, Err}
 use Rattle.ot_logic.specs.Names.{Name}
-use Rattle.ot_program.specs.Reply.{readable, summary_limit}
-use Rattle.ot_program.specs.Answer.{AreReadBack}
+use Rattle.ot_program.specs.Runs.{summary_limit}
+use Rattle.ot_program.specs.ShowReadable.{readable, AreReadBack}
 use Rattle.ot_program.specs.Verdicts.{noted_from, ReadableEndsAs}
 use Rattle.ot_program.proofs.RunLemmas.{exported_within}
 use Rattle.ot_program.proofs.NotedLemmas.{read_back, printed, refused, unpromised}

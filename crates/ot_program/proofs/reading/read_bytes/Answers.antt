@@ -6,7 +6,7 @@ use Rattle.ot_theory.specs.Lines.{lines_of}
 use Rattle.ot_parse.specs.Plain.{sequent_of}
 use Rattle.ot_read.specs.Lines.{RefusedLine, lines_read, IsLineRefusal}
 use Rattle.ot_read.specs.Laws.{StandFor}
-use Rattle.ot_program.specs.Reply.{notation}
+use Rattle.ot_program.specs.Runs.{notation}
 use Rattle.ot_program.specs.Verdicts.{noted_from}
 use Rattle.ot_program.proofs.RunLemmas.{exported_within}
 use Rattle.ot_program.proofs.ReadingLemmas.{same_lines, they_stand, all_stand}

@@ -1,5 +1,5 @@
 use Rattle.std.proofs.Common.{◌∙◌, ◌++◌, ap}
-use Rattle.ot_program.specs.Reply.{sample_front, sample_back, line_count}
+use Rattle.ot_program.specs.Samples.{sample_front, sample_back, line_count}
 use Rattle.ot_program.specs.Verdicts.{ran_from}
 use Rattle.ot_program.proofs.SampleLemmas.{sample_within, written_text}
 use Rattle.ot_program.proofs.report.sampled.Goals as goal

@@ -1,5 +1,6 @@
 use Rattle.std.proofs.Common.{◌≡◌, ap}
-use Rattle.ot_program.specs.Reply.{uses, summary_limit}
+use Rattle.ot_program.specs.Runs.{summary_limit}
+use Rattle.ot_program.specs.RunInput.{uses}
 use Rattle.ot_program.specs.Texts.{large_line}
 use Rattle.ot_program.specs.Verdicts.{ran_from}
 use Rattle.ot_program.proofs.LimitLemmas.{text_printed}

@@ -5,7 +5,9 @@ use Rattle.ot_io.proofs.Reading.{HasRead-told}
 use Rattle.ot_link.specs.Blocks.{article_end}
 use Rattle.ot_sample.specs.Sample.{sample}
 use Rattle.ot_program.specs.World.{anywhere}
-use Rattle.ot_program.specs.Reply.{RunSample, sample_path, outcome}
+use Rattle.ot_program.specs.Tasks.{RunSample}
+use Rattle.ot_program.specs.Runs.{outcome}
+use Rattle.ot_program.specs.Samples.{sample_path}
 use Rattle.ot_program.specs.Verdicts.{end_of, IsAnswer, HasOwnCause}
 use Rattle.ot_program.proofs.SampleLemmas.{sample_end}
 use Rattle.ot_program.proofs.VerdictLemmas.{task_verdict}
