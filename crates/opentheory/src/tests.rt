@@ -14,18 +14,20 @@ mod written;
 
 use ot_io::{MemFiles, MemSink, MemSource};
 use ot_program::{Status, run};
-use repetitions::{DOUBLED, REPEATED, Repeated, TOO_LARGE};
+use repetitions::{DOUBLED, KEYED, KEYED_LAST, REPEATED, Repeated, TOO_LARGE};
 use std::alloc::Global;
 use std::process::Abort;
 use std::test::Fail;
-use tables::{ARTICLES, FAULTS, FIRST, NEEDED, NONE, ONE, PARTS, SUMMARIES};
+use tables::{ARTICLES, FAULTS, FIRST, NEEDED, NEW_TYPES_5, NONE, ONE, PARTS, SUMMARIES};
 use theories::{
-    ASSUMED_ONE, ASSUMES, BAD_LINE, CHAIN, CYCLE, Entry, FAR, GONE, IMPORT_CYCLE, IMPORTS,
-    IMPORTS_LATE, IMPORTS_NONE, NO_ARTICLE, NO_THEORY, NOT_EQUATION, NOT_EQUATION_FAR, RENAMED,
-    RENAMES, SHOWN, SHOWS, SYMMETRIC, THEORY_FAILED, TOO_DEEP, UNREADABLE, WEAKENED, WEAKENS,
-    WEAKENS_NONE,
+    ASSUMED_ONE, ASSUMES, BAD_LINE, CHAIN, CYCLE, DEFINED_TOP, DEFINES_TOP, Entry, FAR, GONE,
+    IMPORT_CYCLE, IMPORTS, IMPORTS_LATE, IMPORTS_NONE, NO_ARTICLE, NO_THEORY, NOT_EQUATION,
+    NOT_EQUATION_FAR, RENAMED, RENAMES, SHOWN, SHOWS, SYMMETRIC, THEORY_FAILED, TOO_DEEP,
+    UNREADABLE, WEAKENED, WEAKENS, WEAKENS_NONE,
 };
-use written::{LEAN, LINKED, NEEDLESS, NEEDLESS_COUNTS, SAME_THEOREMS, SAMPLES, WRITTEN};
+use written::{
+    LEAN, LINKED, NEEDLESS, NEEDLESS_COUNTS, SAME_THEOREMS, SAMPLES, WRITTEN, WRITTEN_TOP,
+};
 
 /// What the program answers: its status, and what stands on both sinks.
 #[derive(Drop)]
@@ -355,6 +357,27 @@ fn doubled(rt: HostRuntime) -> Result<(), Fail> {
     Ok(())
 }
 
+/// The terms of the sample, each under a key of its own.
+fn keyed(alloc: Global) -> Result<Vec<u8>, Fail> {
+    let mut article = joined(alloc, &[KEYED])?;
+    for key in 6..406 {
+        let next: u64 = key + 2;
+        let lines = format!(in alloc;
+            "4\nref\n{key}\nref\nappTerm\n{key}\nref\nappTerm\n{next}\ndef\npop\n"
+        )?;
+        article.extend_from_slice(lines.as_bytes())?;
+    }
+    add_lines(&mut article, KEYED_LAST)?;
+    Ok(article)
+}
+
+#[test]
+fn doubled_under_keys(rt: HostRuntime) -> Result<(), Fail> {
+    let article = keyed(rt.alloc())?;
+    assert!(rt; answers(rt.alloc(), &["check", "-"], &article, Status::Accepted, ONE)?);
+    Ok(())
+}
+
 #[test]
 fn too_large(rt: HostRuntime) -> Result<(), Fail> {
     assert!(rt; says_repeated(rt.alloc(), &TOO_LARGE)?);
@@ -458,6 +481,32 @@ fn linked(rt: HostRuntime) -> Result<(), Fail> {
     Ok(())
 }
 
+/// A definition that a theory file renames is written under its new name.
+#[test]
+fn renamed_definitions(rt: HostRuntime) -> Result<(), Fail> {
+    let info = &["info", "t.thy"];
+    assert!(rt;
+        says(
+            rt.alloc(),
+            info,
+            &DEFINES_TOP,
+            0,
+            Status::Accepted,
+            DEFINED_TOP
+        )?
+    );
+    let mut lines = Vec::new(rt.alloc());
+    add_lines(&mut lines, WRITTEN_TOP)?;
+    for command in ["link", "minimise"] {
+        let words = &[command, "t.thy"];
+        assert!(rt;
+            says(rt.alloc(), words, &DEFINES_TOP, 0, Status::Accepted, &lines)?,
+            "{command}"
+        );
+    }
+    Ok(())
+}
+
 /// Whether `info` prints this summary of the article that `minimise` writes of an article.
 fn rewrites(alloc: Global, parts: &[&[u8]], summary: &[u8]) -> Result<bool, Fail> {
     let article = joined(alloc, parts)?;
@@ -491,6 +540,19 @@ fn rewritten(rt: HostRuntime) -> Result<(), Fail> {
     Ok(())
 }
 
+/// Type operators of version 5 print, are written again and have a log, also where their predicate has binders.
+#[test]
+fn new_types(rt: HostRuntime) -> Result<(), Fail> {
+    for &(parts, summary) in NEW_TYPES_5 {
+        let article = joined(rt.alloc(), parts)?;
+        let info = &["info", "-"];
+        assert!(rt; answers(rt.alloc(), info, &article, Status::Accepted, summary)?);
+        assert!(rt; rewrites(rt.alloc(), parts, summary)?, "{parts:?}");
+        assert!(rt; logs::proves(rt.alloc(), parts, summary)?, "{parts:?}");
+    }
+    Ok(())
+}
+
 /// The sample article, and the line on it.
 #[test]
 fn samples(rt: HostRuntime) -> Result<(), Fail> {
@@ -500,15 +562,65 @@ fn samples(rt: HostRuntime) -> Result<(), Fail> {
             "{size}"
         );
     }
-    let made = answered(rt.alloc(), &["sample", "--article", "200"], b"", FINE)?;
-    check_sample(&rt, rt.alloc(), &made.out)
+    Ok(())
 }
 
-fn check_sample(rt: &impl Abort, alloc: Global, article: &[u8]) -> Result<(), Fail> {
-    assert!(rt; answers(alloc, &["check", "-"], article, Status::Accepted, ONE)?);
-    let line = TOO_LARGE.6;
-    assert!(rt; answers(alloc, &["info", "-"], article, Status::Refused, line)?);
+/// Whether the program answers these words so over the sample article of size 200, whose terms are doubled 200 times.
+fn answers_on_doubled(
+    alloc: Global,
+    words: &[&str],
+    status: Status,
+    text: &[u8],
+) -> Result<bool, Fail> {
+    let made = answered(alloc, &["sample", "--article", "200"], b"", FINE)?;
+    answers(alloc, words, &made.out, status, text)
+}
+
+/// What isn't printed of doubled terms takes no more than their shared parts.
+#[test]
+fn doubled_samples(rt: HostRuntime) -> Result<(), Fail> {
+    let check = &["check", "-"];
+    let alike = &["find", "((p : 'A) = (p : 'A))", "-"];
+    assert!(rt; answers_on_doubled(rt.alloc(), check, Status::Accepted, ONE)?);
+    assert!(rt; answers_on_doubled(rt.alloc(), alike, Status::Accepted, b"matches: 0\n")?);
     Ok(())
+}
+
+/// What is printed of them is too large, which is seen as soon as its page is full.
+#[test]
+fn large_summaries(rt: HostRuntime) -> Result<(), Fail> {
+    let rows: [&[&str]; 2] = [&["info", "-"], &["info", "--readable", "-"]];
+    for words in rows {
+        assert!(rt; answers_on_doubled(rt.alloc(), words, Status::Refused, TOO_LARGE.6)?);
+    }
+    Ok(())
+}
+
+#[test]
+fn large_lists(rt: HostRuntime) -> Result<(), Fail> {
+    let rows: [&[&str]; 2] = [
+        &["info", "--uses", "-"],
+        &["find", "((p : 'A) = (q : 'A))", "-"],
+    ];
+    for words in rows {
+        assert!(rt; answers_on_doubled(rt.alloc(), words, Status::Refused, TOO_LARGE.6)?);
+    }
+    Ok(())
+}
+
+/// Their log is small, and is checked; what it proves is too large to be printed.
+#[test]
+fn large_logs(rt: HostRuntime) -> Result<(), Fail> {
+    assert!(rt; has_large_log(rt.alloc())?);
+    Ok(())
+}
+
+fn has_large_log(alloc: Global) -> Result<bool, Fail> {
+    let made = answered(alloc, &["sample", "--article", "200"], b"", FINE)?;
+    let log = answered(alloc, &["prove", "-"], &made.out, FINE)?;
+    let verify = &["verify", "-"];
+    let is_large = answers(alloc, verify, &log.out, Status::Refused, TOO_LARGE.6)?;
+    Ok(log.status == Status::Accepted && is_large)
 }
 
 /// The path of a line is that of the file at fault.

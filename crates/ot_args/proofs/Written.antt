@@ -18,7 +18,7 @@ use Rattle.ot_args.specs.Grammar.{option_name, option_words, flag_named, flag_or
 use Rattle.ot_args.specs.Grammar.{are_options, settings_of, packages_of, names_any, shown, is_input, is_plain}
 use Rattle.ot_args.specs.Grammar.{is_theory, count_of, arguments, argument_words, sample, command, command_on}
 use Rattle.ot_args.specs.Grammar.{command_on_two, command_with, command_of, verb_word, verb_named, verb_of}
-use Rattle.ot_args.specs.Grammar.{operands_of, FitsOperands, FitsSettings, Writes, IsRead, command_value, answer}
+use Rattle.ot_args.specs.Grammar.{operands_of, FitsOperands, FitsSettings, IsWrittenOut, IsRead, command_value, command_answer}
 use Rattle.ot_args.proofs.Counts.{found, finds}
 use Rattle.ot_args.proofs.Steps.{flag_first, operand_first}
 
@@ -206,7 +206,7 @@ command_is v a words e taken =
     ∙ ap (option_and_then (command v)) e
     ∙ ap (λ (b : Bool). cond b (command_with v (settings_of a.options) a.operands) None) taken
 
-reads : (words : List (List ℕ)) (c : CommandValue) → Writes words c → command_of words ≡ Some c
+reads : (words : List (List ℕ)) (c : CommandValue) → IsWrittenOut words c → command_of words ≡ Some c
 reads words c w =
     ap command_of w.written
     ∙ command_is (verb_of c) (record { options = w.options; operands = operands_of c })
@@ -433,7 +433,7 @@ named word =
 -- words that are a command's word and arguments
 writes_given : (v : Verb) (words : List (List ℕ)) (c : CommandValue) (a : Arguments) (b : Bool)
     → arguments words ≡ Some a → are_options v a.options ≡ b
-    → cond b (command_with v (settings_of a.options) a.operands) None ≡ Some c → Writes (verb_word v ∷ words) c
+    → cond b (command_with v (settings_of a.options) a.operands) None ≡ Some c → IsWrittenOut (verb_word v ∷ words) c
 writes_given v words c a false e taken h = cc
 writes_given v words c a true e taken h =
     let f : Fits v (settings_of a.options) a.operands c = command_fits v (settings_of a.options) a.operands c h in
@@ -448,17 +448,17 @@ writes_given v words c a true e taken h =
     }
 
 writes_behind : (v : Verb) (words : List (List ℕ)) (c : CommandValue) (r : Option Arguments) → arguments words ≡ r
-    → option_and_then (command v) r ≡ Some c → Writes (verb_word v ∷ words) c
+    → option_and_then (command v) r ≡ Some c → IsWrittenOut (verb_word v ∷ words) c
 writes_behind v words c None e h = cc
 writes_behind v words c (Some a) e h = writes_given v words c a (are_options v a.options) e refl h
 
 writes_named : (word : List ℕ) (words : List (List ℕ)) (c : CommandValue) (r : Option Verb) → Names word r
-    → option_and_then (λ v. option_and_then (command v) (arguments words)) r ≡ Some c → Writes (word ∷ words) c
+    → option_and_then (λ v. option_and_then (command v) (arguments words)) r ≡ Some c → IsWrittenOut (word ∷ words) c
 writes_named word words c None is h = cc
 writes_named word words c (Some v) is h =
-    subst (λ (w : List ℕ). Writes (w ∷ words) c) (sym (is v refl)) (writes_behind v words c (arguments words) refl h)
+    subst (λ (w : List ℕ). IsWrittenOut (w ∷ words) c) (sym (is v refl)) (writes_behind v words c (arguments words) refl h)
 
-writes : (words : List (List ℕ)) (c : CommandValue) → command_of words ≡ Some c → Writes words c
+writes : (words : List (List ℕ)) (c : CommandValue) → command_of words ≡ Some c → IsWrittenOut words c
 writes [] c h = cc
 writes (word ∷ words) c h = writes_named word words c (verb_named word) (named word) h
 
@@ -466,7 +466,7 @@ pub is_read : (words : List (List ℕ)) (c : CommandValue) → IsRead words c
 is_read words c = (writes words c, reads words c)
 
 -- what the code answers has operands that it may have
-pub operands_fit : (words : List (List ℕ)) (r : Result Command Usage) → answer r ≡ command_of words
+pub operands_fit : (words : List (List ℕ)) (r : Result Command Usage) → command_answer r ≡ command_of words
     → IfOk r (λ c. FitsOperands (command_value c))
 operands_fit words (Ok c) h = (writes words (command_value c) (sym h)).operands
 operands_fit words (Err e) h = tt

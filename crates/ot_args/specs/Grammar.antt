@@ -370,7 +370,7 @@ FitsSettings s (Verify _) = Unit
 FitsSettings s (Find packages _ _) = packages_of s ≡ packages
 
 -- the words are a command's word, options that it takes, and its operands, written out
-pub record Writes (words : List (List ℕ)) (c : CommandValue) : Type 0 where
+pub record IsWrittenOut (words : List (List ℕ)) (c : CommandValue) : Type 0 where
   pub options : List OptionValue
   pub written : words ≡ verb_word (verb_of c) ∷ argument_words options (operands_of c)
   pub taken : are_options (verb_of c) options ≡ true
@@ -379,7 +379,7 @@ pub record Writes (words : List (List ℕ)) (c : CommandValue) : Type 0 where
 
 -- the words are this command exactly where they write it
 abbrev pub IsRead : List (List ℕ) → CommandValue → Type 0
-IsRead words c = (command_of words ≡ Some c) ↔ Writes words c
+IsRead words c = (command_of words ≡ Some c) ↔ IsWrittenOut words c
 
 -- ---- the answers of the code
 
@@ -403,6 +403,6 @@ command_value (code.Verify log) = Verify log.now
 command_value (code.Find packages pattern input) = Find packages.now pattern.now input.now
 
 -- what the code answers
-abbrev pub answer : Result Command Usage → Option CommandValue
-answer (Ok c) = Some (command_value c)
-answer (Err _) = None
+abbrev pub command_answer : Result Command Usage → Option CommandValue
+command_answer (Ok c) = Some (command_value c)
+command_answer (Err _) = None

@@ -1,6 +1,6 @@
 ghost use Rattle.std.specs.Prelude.{◌≡◌, ℕ, List, IfOk};
 ghost use Rattle.std.specs.Option.{option_map, option_and_then};
-ghost use Rattle.ot_args.specs.Grammar.{CommandValue, FitsOperands, IsRead, answer, arguments, command, command_of};
+ghost use Rattle.ot_args.specs.Grammar.{CommandValue, FitsOperands, IsRead, command_answer, arguments, command, command_of};
 ghost use Rattle.ot_args.specs.Grammar.{command_on, command_on_two, command_value, command_with, count_of, info};
 ghost use Rattle.ot_args.specs.Grammar.{is_input, is_plain, is_theory, packages_of, sample, texts_of};
 ghost use Rattle.ot_args.specs.Reading.{settings_value};
@@ -105,7 +105,7 @@ impl<'a> Command<'a> {
     /// with `-`. N is a number from 1 to 1,000 in decimal, without sign or leading zero.
     /// `Usage` comes exactly for words outside this grammar, which is the program's own. No memory is taken.
     pub fn read(words: &'a [String]) -> Result<Command<'a>, Usage>
-        ensures value { answer result ≡ command_of (texts_of words.now) }
+        ensures value { command_answer result ≡ command_of (texts_of words.now) }
         ensures operands { IfOk result (λ command. FitsOperands (command_value command)) }
     {
         match words {
@@ -126,7 +126,7 @@ pub fn one_reading()
 
 /// The command of its options and operands.
 fn read_behind<'a>(verb: Verb, words: &'a [String]) -> Result<Command<'a>, Usage>
-    ensures { answer result ≡ option_and_then (command verb) (arguments (texts_of words.now)) }
+    ensures { command_answer result ≡ option_and_then (command verb) (arguments (texts_of words.now)) }
 {
     match Given::read(verb, words) {
         Ok(given) => command_with(verb, given.settings, given.operands),
@@ -141,7 +141,7 @@ fn command_with<'a>(
     settings: Settings<'a>,
     operands: &'a [String],
 ) -> Result<Command<'a>, Usage>
-    ensures { answer result ≡ command_with verb (settings_value settings.entry) (texts_of operands.now) }
+    ensures { command_answer result ≡ command_with verb (settings_value settings.entry) (texts_of operands.now) }
 {
     match operands {
         [operand] => command_on(verb, settings, operand.as_str()),
@@ -156,7 +156,7 @@ fn command_on<'a>(
     settings: Settings<'a>,
     operand: &'a str,
 ) -> Result<Command<'a>, Usage>
-    ensures { answer result ≡ command_on verb (settings_value settings.entry) operand.now }
+    ensures { command_answer result ≡ command_on verb (settings_value settings.entry) operand.now }
 {
     let packages = folder_of(settings);
     let input = operand;
@@ -182,7 +182,7 @@ fn command_on_two<'a>(
     first: &'a str,
     second: &'a str,
 ) -> Result<Command<'a>, Usage>
-    ensures { answer result ≡ command_on_two verb (settings_value settings.entry) first.now second.now }
+    ensures { command_answer result ≡ command_on_two verb (settings_value settings.entry) first.now second.now }
 {
     let packages = folder_of(settings);
     match verb {
@@ -209,7 +209,7 @@ fn folder_of<'a>(settings: Settings<'a>) -> &'a str
 
 /// What `info` shows of the run of an input: sections of its summary, what its theorems rest on, or readable text.
 fn info<'a>(settings: Settings<'a>, packages: &'a str, input: &'a str) -> Result<Command<'a>, Usage>
-    ensures { answer result ≡ info (settings_value settings.entry) packages.now input.now }
+    ensures { command_answer result ≡ info (settings_value settings.entry) packages.now input.now }
 {
     if names_any(settings.sections) && (settings.uses || settings.readable) {
         return Err(Usage);
@@ -228,7 +228,7 @@ fn info<'a>(settings: Settings<'a>, packages: &'a str, input: &'a str) -> Result
 
 /// A sample, or its article, of the number that a word is.
 fn sample(article: bool, word: &str) -> Result<Command<'_>, Usage>
-    ensures { answer result ≡ option_map (sample article) (count_of word.now) }
+    ensures { command_answer result ≡ option_map (sample article) (count_of word.now) }
 {
     match count_of(word) {
         Some(count) if article => Ok(Command::SampleArticle { count }),

@@ -7,7 +7,7 @@ use Rattle.std.proofs.lemmas.Map.Steps.{length-le_from_distinct_below}
 use Rattle.ot_logic.specs.Lists.{IsMember}
 use Rattle.ot_blocks.specs.Order.{Order, Ordered, LeadsBack, TooDeep, ◌>>=◌}
 use Rattle.ot_blocks.specs.Order.{walk_imports, walk_block, imports_at, is_in}
-use Rattle.ot_blocks.specs.Ordering.{IsInside, EndsAlways}
+use Rattle.ot_blocks.specs.Ordering.{NamesBlocks, EndsAlways}
 use Rattle.ot_blocks.specs.declared.walk.Import.{Import}
 
 bind_ends : (o : Order) (f : List ℕ → Order) → o ≢ TooDeep → ((bs : List ℕ) → f bs ≢ TooDeep) → (o >>= f) ≢ TooDeep
@@ -60,7 +60,7 @@ imports_end n visit path ends (i ∷ is) done inside = elim (cases_Bool (is_in d
   ]
 ]
 
-block_ends : (g : List (List Import)) → IsInside g → (n : ℕ) (path : List ℕ) → IsPath (length g) path
+block_ends : (g : List (List Import)) → NamesBlocks g → (n : ℕ) (path : List ℕ) → IsPath (length g) path
     → length g ≤ n + length path
     → VisitEnds (length g) (walk_block n g path) path
 block_ends g inside zero path p bound done b new lt =

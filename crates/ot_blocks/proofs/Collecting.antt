@@ -12,7 +12,7 @@ use Rattle.ot_theory.specs.Answers.{tag_of, tags_of, block_of, blocks_of}
 use Rattle.ot_theory.specs.declared.theory.Block.{Block}
 use Rattle.ot_theory.specs.declared.theory.Tag.{Tag}
 use Rattle.ot_blocks.specs.Structure.{Places, fault_of, faults_of, import_of, imports_of, graph_of, first_fault}
-use Rattle.ot_blocks.specs.Answers.{Reads, IsFirst}
+use Rattle.ot_blocks.specs.Answers.{ReadsImport, IsFirstFault}
 use Rattle.ot_blocks.specs.declared.walk.Import.{Import}
 use Rattle.ot_blocks.specs.declared.fault.PlanFault.{PlanFault}
 use Rattle.ot_blocks.specs.declared.fault.PlanFault.TheVariants.{At, Memory}
@@ -110,7 +110,7 @@ pub record DrawnSoFar (places : Places) (bs : List Block) (g : List (List Import
 
 module _ (places : Places) (ts : List Tag) (k : ℕ) (imports : List Import) (lt : k < length ts)
     (so_far : ReadSoFar places (take k ts) imports) where
-  read : (o : Option Import) → Reads (Ok o) (fault_of places (tag_of (get_or ts k no_tag)))
+  read : (o : Option Import) → ReadsImport (Ok o) (fault_of places (tag_of (get_or ts k no_tag)))
       (import_of places (tag_of (get_or ts k no_tag)))
       → ReadSoFar places (take (k + 1) ts) (imports ++ cons_option o [])
   read o here = record {
@@ -121,23 +121,23 @@ module _ (places : Places) (ts : List Tag) (k : ℕ) (imports : List Import) (lt
   }
 
   -- a statement that is an import
-  pub import_read : (i : Import) → Reads (Ok (Some i)) (fault_of places (tag_of (get_or ts k no_tag)))
+  pub import_read : (i : Import) → ReadsImport (Ok (Some i)) (fault_of places (tag_of (get_or ts k no_tag)))
       (import_of places (tag_of (get_or ts k no_tag)))
       → ReadSoFar places (take (k + 1) ts) (imports ++ i ∷ [])
   import_read i here = read (Some i) here
 
   -- another one
-  pub other_read : Reads (Ok None) (fault_of places (tag_of (get_or ts k no_tag)))
+  pub other_read : ReadsImport (Ok None) (fault_of places (tag_of (get_or ts k no_tag)))
       (import_of places (tag_of (get_or ts k no_tag))) → ReadSoFar places (take (k + 1) ts) imports
   other_read here = subst (ReadSoFar places (take (k + 1) ts)) (append-nil imports) (read None here)
 
   -- one that is refused
-  pub statement_refused : (e : PlanFault) → Reads (Err e) (fault_of places (tag_of (get_or ts k no_tag)))
+  pub statement_refused : (e : PlanFault) → ReadsImport (Err e) (fault_of places (tag_of (get_or ts k no_tag)))
       (import_of places (tag_of (get_or ts k no_tag)))
-      → IsFirst e (filter_map (fault_of places) (tags_of ts))
+      → IsFirstFault e (filter_map (fault_of places) (tags_of ts))
   statement_refused (At line fault) here = first_found tag_of ts k (get_or ts k no_tag) no_tag (fault_of places)
       (line, fault) lt refl so_far.sound here
-  statement_refused Memory here = tt
+  statement_refused (Memory memory) here = tt
 
 module _ (places : Places) (bs : List Block) (k : ℕ) (b : Block) (g : List (List Import)) (lt : k < length bs)
     (is : b ≡ get_or bs k b) (so_far : DrawnSoFar places (take k bs) g) where
@@ -155,7 +155,7 @@ module _ (places : Places) (bs : List Block) (k : ℕ) (b : Block) (g : List (Li
   }
 
   -- one with a fault
-  pub block_refused : (e : PlanFault) → IsFirst e (filter_map (fault_of places) (tags_of b.statements.items))
-      → IsFirst e (faults_of places (blocks_of bs))
+  pub block_refused : (e : PlanFault) → IsFirstFault e (filter_map (fault_of places) (tags_of b.statements.items))
+      → IsFirstFault e (faults_of places (blocks_of bs))
   block_refused (At line fault) here = faults_found places bs k b (line, fault) lt is so_far.sound here
-  block_refused Memory here = tt
+  block_refused (Memory memory) here = tt

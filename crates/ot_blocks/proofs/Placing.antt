@@ -15,8 +15,8 @@ use Rattle.ot_theory.specs.Theory.{TagText, BlockText, has_block}
 use Rattle.ot_theory.specs.Values.{key_of}
 use Rattle.ot_theory.specs.declared.keys.Key.{Key}
 use Rattle.ot_theory.specs.declared.keys.Key.TheVariants as keys
-use Rattle.ot_blocks.specs.Ordering.{IsInside}
-use Rattle.ot_blocks.specs.Structure.{Places, place_of, imported, import_of, graph_of}
+use Rattle.ot_blocks.specs.Ordering.{NamesBlocks}
+use Rattle.ot_blocks.specs.Structure.{Places, block_places, imported, import_of, graph_of}
 use Rattle.ot_blocks.specs.declared.walk.Import.{Import}
 
 -- ---- one block more
@@ -48,65 +48,65 @@ position_push p i (x ∷ xs) y = elim (cases_Bool (p x)) [
 ]
 
 place_push : (blocks : List BlockText) (b : BlockText) (name : List ℕ)
-    → place_of (blocks ++ b ∷ []) name ≡ or_else (place_of blocks name)
+    → block_places (blocks ++ b ∷ []) name ≡ or_else (block_places blocks name)
     (if bytes_eq b.name name then Some (length blocks) else None)
 place_push blocks b name =
     position_from-zero (λ c. bytes_eq c.name name) (blocks ++ b ∷ [])
     ∙ position_push (λ c. bytes_eq c.name name) 0 blocks b
     ∙ ap (λ o. or_else o (if bytes_eq b.name name then Some (0 + length blocks) else None))
     (sym (position_from-zero (λ c. bytes_eq c.name name) blocks))
-    ∙ ap (λ n. or_else (place_of blocks name) (if bytes_eq b.name name then Some n else None)) (omega arith)
+    ∙ ap (λ n. or_else (block_places blocks name) (if bytes_eq b.name name then Some n else None)) (omega arith)
 
 -- a name that no block had leads to the new one
 pub place_inserted : (old new : Places) (key : List ℕ) (place : ℕ) (blocks : List BlockText) (b : BlockText)
-    → ((name : List ℕ) → old name ≡ place_of blocks name) → b.name ≡ key → place ≡ length blocks
+    → ((name : List ℕ) → old name ≡ block_places blocks name) → b.name ≡ key → place ≡ length blocks
     → is_some (old key) ≡ false
     → ((name : List ℕ) → new name ≡ cond (bytes_eq key name) (Some place) (old name))
-    → (name : List ℕ) → new name ≡ place_of (blocks ++ b ∷ []) name
+    → (name : List ℕ) → new name ≡ block_places (blocks ++ b ∷ []) name
 place_inserted old new key place blocks b holds named at fresh updated name =
     updated name ∙ chosen
-    ∙ ap (λ z. or_else (place_of blocks name) (if bytes_eq z name then Some (length blocks) else None))
+    ∙ ap (λ z. or_else (block_places blocks name) (if bytes_eq z name then Some (length blocks) else None))
     (sym named) ∙ sym (place_push blocks b name)
   where
-    chosen : cond (bytes_eq key name) (Some place) (old name) ≡ or_else (place_of blocks name)
+    chosen : cond (bytes_eq key name) (Some place) (old name) ≡ or_else (block_places blocks name)
         (if bytes_eq key name then Some (length blocks) else None)
     chosen = elim (cases_Bool (bytes_eq key name)) [
       | inl same ↦
           let is : key ≡ name = (bytes_eq-Decides key name).0 same in
-          let none : place_of blocks name ≡ None = sym (holds name) ∙ ap old (sym is) ∙ none_there (old key) fresh in
+          let none : block_places blocks name ≡ None = sym (holds name) ∙ ap old (sym is) ∙ none_there (old key) fresh in
           rw (same, none) (ap Some at)
-      | inr other ↦ rw other (holds name ∙ sym (or_else_none (place_of blocks name)))
+      | inr other ↦ rw other (holds name ∙ sym (or_else_none (block_places blocks name)))
     ]
 
 -- a name that a block had leads there still
 pub place_kept : (old : Places) (key : List ℕ) (blocks : List BlockText) (b : BlockText)
-    → ((name : List ℕ) → old name ≡ place_of blocks name) → b.name ≡ key → is_some (old key) ≡ true
-    → (name : List ℕ) → old name ≡ place_of (blocks ++ b ∷ []) name
+    → ((name : List ℕ) → old name ≡ block_places blocks name) → b.name ≡ key → is_some (old key) ≡ true
+    → (name : List ℕ) → old name ≡ block_places (blocks ++ b ∷ []) name
 place_kept old key blocks b holds named there name =
     holds name ∙ chosen
-    ∙ ap (λ z. or_else (place_of blocks name) (if bytes_eq z name then Some (length blocks) else None))
+    ∙ ap (λ z. or_else (block_places blocks name) (if bytes_eq z name then Some (length blocks) else None))
     (sym named) ∙ sym (place_push blocks b name)
   where
-    chosen : place_of blocks name ≡ or_else (place_of blocks name)
+    chosen : block_places blocks name ≡ or_else (block_places blocks name)
         (if bytes_eq key name then Some (length blocks) else None)
     chosen = elim (cases_Bool (bytes_eq key name)) [
       | inl same ↦
           let is : key ≡ name = (bytes_eq-Decides key name).0 same in
-          let some : is_some (place_of blocks name) ≡ true = ap is_some (sym (holds name) ∙ ap old (sym is))
+          let some : is_some (block_places blocks name) ≡ true = ap is_some (sym (holds name) ∙ ap old (sym is))
           ∙ there in
-          sym (or_else_some (place_of blocks name) (if bytes_eq key name then Some (length blocks) else None) some)
-      | inr other ↦ rw other (sym (or_else_none (place_of blocks name)))
+          sym (or_else_some (block_places blocks name) (if bytes_eq key name then Some (length blocks) else None) some)
+      | inr other ↦ rw other (sym (or_else_none (block_places blocks name)))
     ]
 
 -- ---- places are inside
 
-place_inside : (blocks : List BlockText) (name : List ℕ) (place : ℕ) → place_of blocks name ≡ Some place
+place_inside : (blocks : List BlockText) (name : List ℕ) (place : ℕ) → block_places blocks name ≡ Some place
     → place < length blocks
 place_inside blocks name place e =
     (position-Some (λ b. bytes_eq b.name name) blocks place (record { line = 0; name = []; statements = [] }) e).0
 
 pub place_there : (blocks : List BlockText) (name : List ℕ) → has_block blocks name ≡ true
-    → is_some (place_of blocks name) ≡ true
+    → is_some (block_places blocks name) ≡ true
 place_there blocks name e = ap is_some (position_from-zero (λ b. bytes_eq b.name name) blocks)
     ∙ found 0 blocks e where
       found : (i : ℕ) (bs : List BlockText) → has_block bs name ≡ true
@@ -160,13 +160,13 @@ length_graph : (places : Places) (blocks : List BlockText) → length (graph_of 
 length_graph places [] = refl
 length_graph places (b ∷ bs) = ap suc (length_graph places bs)
 
-pub graph_inside : (blocks : List BlockText) → IsInside (graph_of (place_of blocks) blocks)
+pub graph_inside : (blocks : List BlockText) → NamesBlocks (graph_of (block_places blocks) blocks)
 graph_inside blocks b i m =
-    let lt : i.block < length blocks = lists_inside (place_of blocks) (length blocks) (place_inside blocks) blocks b i
+    let lt : i.block < length blocks = lists_inside (block_places blocks) (length blocks) (place_inside blocks) blocks b i
     m in
-    omega (arith, lt, length_graph (place_of blocks) blocks)
+    omega (arith, lt, length_graph (block_places blocks) blocks)
 
-pub main_inside : (blocks : List BlockText) (name : List ℕ) (place : ℕ) → place_of blocks name ≡ Some place
-    → place < length (graph_of (place_of blocks) blocks)
+pub main_inside : (blocks : List BlockText) (name : List ℕ) (place : ℕ) → block_places blocks name ≡ Some place
+    → place < length (graph_of (block_places blocks) blocks)
 main_inside blocks name place e =
-    omega (arith, place_inside blocks name place e, length_graph (place_of blocks) blocks)
+    omega (arith, place_inside blocks name place e, length_graph (block_places blocks) blocks)

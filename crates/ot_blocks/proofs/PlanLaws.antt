@@ -7,12 +7,12 @@ use Rattle.ot_logic.specs.Answers.{◌>>=◌}
 use Rattle.ot_logic.specs.Lists.{IsMember}
 use Rattle.ot_theory.specs.Theory.{BlockText, has_block}
 use Rattle.ot_blocks.specs.Order.{Order, Ordered, LeadsBack, TooDeep, order_of, imports_at}
-use Rattle.ot_blocks.specs.Structure.{Places, PlanText, place_of, imports_of, graph_of, faults_of}
+use Rattle.ot_blocks.specs.Structure.{Places, PlanText, block_places, imports_of, graph_of, faults_of}
 use Rattle.ot_blocks.specs.Structure.{structure_faults, first_fault, ordered, order_at, main_order}
 use Rattle.ot_blocks.specs.Structure.{imported_blocks, plan, PlanEnds, IsWithin, IsPlan, GivesPlan}
 use Rattle.ot_blocks.specs.declared.walk.Import.{Import}
-use Rattle.ot_blocks.specs.Answers.{IsFirst, Walks, Plans, plan_of}
-use Rattle.ot_blocks.specs.Ordering.{IsInside, Reaches, Here, Along, IsOrder}
+use Rattle.ot_blocks.specs.Answers.{IsFirstFault, Walks, Plans, plan_of}
+use Rattle.ot_blocks.specs.Ordering.{NamesBlocks, Reaches, Here, Along, IsOrder}
 use Rattle.ot_blocks.specs.declared.structure.Plan.{Plan}
 use Rattle.ot_blocks.specs.declared.fault.PlanFault.{PlanFault}
 use Rattle.ot_blocks.specs.declared.fault.PlanFault.TheVariants.{At, Memory}
@@ -33,24 +33,24 @@ planned faults order g = planned_after order g (first_fault faults)
 -- ---- where the names lead to the places of the blocks
 
 module _ (blocks : List BlockText) (places : Places)
-    (holds : (name : List ℕ) → places name ≡ place_of blocks name) where
-  same_places : places ≡ place_of blocks
+    (holds : (name : List ℕ) → places name ≡ block_places blocks name) where
+  same_places : places ≡ block_places blocks
   same_places = λ i name. holds name i
 
-  graph_is : (g : List (List Import)) → graph_of places blocks ≡ g → graph_of (place_of blocks) blocks ≡ g
+  graph_is : (g : List (List Import)) → graph_of places blocks ≡ g → graph_of (block_places blocks) blocks ≡ g
   graph_is g e = ap (λ p. graph_of p blocks) (sym same_places) ∙ e
 
   -- a fault of a statement
-  pub plan_refused : (e : PlanFault) → IsFirst e (faults_of places blocks) → Plans (Err e) (plan blocks)
+  pub plan_refused : (e : PlanFault) → IsFirstFault e (faults_of places blocks) → Plans (Err e) (plan blocks)
   plan_refused (At line fault) e =
-      ap (planned_after (main_order blocks) (graph_of (place_of blocks) blocks))
+      ap (planned_after (main_order blocks) (graph_of (block_places blocks) blocks))
       (subst (λ p. first_fault (faults_of p blocks) ≡ Err (line, fault)) same_places e)
-  plan_refused Memory e = tt
+  plan_refused (Memory memory) e = tt
 
   module _ (g : List (List Import)) (drawn : graph_of places blocks ≡ g) (main : ℕ)
       (main_is : places (codes "main") ≡ Some main) where
-    pub graph_is_inside : IsInside g
-    graph_is_inside = subst IsInside (graph_is g drawn) (graph_inside blocks)
+    pub graph_is_inside : NamesBlocks g
+    graph_is_inside = subst NamesBlocks (graph_is g drawn) (graph_inside blocks)
 
     pub main_is_inside : main < length g
     main_is_inside =
@@ -60,9 +60,9 @@ module _ (blocks : List BlockText) (places : Places)
     plan_is : (order : Order) → faults_of places blocks ≡ [] → order_of g main ≡ order
         → plan blocks ≡ planned [] order g
     plan_is order sound e =
-        ap (λ fs. planned fs (main_order blocks) (graph_of (place_of blocks) blocks))
+        ap (λ fs. planned fs (main_order blocks) (graph_of (block_places blocks) blocks))
         (subst (λ p. faults_of p blocks ≡ []) same_places sound)
-        ∙ ap (λ z. planned [] (order_at z (place_of blocks (codes "main"))) z) (graph_is g drawn)
+        ∙ ap (λ z. planned [] (order_at z (block_places blocks (codes "main"))) z) (graph_is g drawn)
         ∙ ap (λ o. planned [] (order_at g o) g) (sym (holds (codes "main")) ∙ main_is)
         ∙ ap (λ o. planned [] o g) e
 
@@ -78,11 +78,11 @@ module _ (blocks : List BlockText) (places : Places)
     pub order_refused : (e : PlanFault) → faults_of places blocks ≡ [] → Walks (Err e) (order_of g main)
         → Plans (Err e) (plan blocks)
     order_refused (At line fault) sound e = plan_is (LeadsBack line) sound e.0 ∙ ap (λ f. Err (line, f)) (sym e.1)
-    order_refused Memory sound e = tt
+    order_refused (Memory memory) sound e = tt
 
 -- ---- what the plan names
 
-reaches_inside : (g : List (List Import)) → IsInside g → (a c : ℕ) → Reaches g a c → a < length g → c < length g
+reaches_inside : (g : List (List Import)) → NamesBlocks g → (a c : ℕ) → Reaches g a c → a < length g → c < length g
 reaches_inside g inside _ _ (Here b) lt = lt
 reaches_inside g inside _ _ (Along a c i is_import rest) lt =
     reaches_inside g inside i.block c rest (inside a i is_import)
@@ -107,26 +107,26 @@ imported_inside (is ∷ g) n inside (suc b) block m = imported_inside g n (λ c.
 -- ---- laws
 
 pub plan_ends : PlanEnds
-plan_ends blocks = ends (place_of blocks (codes "main")) refl where
-  ends : (o : Option ℕ) → place_of blocks (codes "main") ≡ o
-      → order_at (graph_of (place_of blocks) blocks) o ≢ TooDeep
+plan_ends blocks = ends (block_places blocks (codes "main")) refl where
+  ends : (o : Option ℕ) → block_places blocks (codes "main") ≡ o
+      → order_at (graph_of (block_places blocks) blocks) o ≢ TooDeep
   ends None e = λ deep. cc
-  ends (Some main) e = ends_always (graph_of (place_of blocks) blocks) main (graph_inside blocks)
+  ends (Some main) e = ends_always (graph_of (block_places blocks) blocks) main (graph_inside blocks)
       (main_inside blocks (codes "main") main e)
 
 pub gives_plan : GivesPlan
 gives_plan blocks p has_main is =
-    let main = some_there (place_of blocks (codes "main")) (place_there blocks (codes "main") has_main) in
+    let main = some_there (block_places blocks (codes "main")) (place_there blocks (codes "main") has_main) in
     by_faults main.0 main.1 (structure_faults blocks) refl (main_order blocks)
-    (ap (order_at (graph_of (place_of blocks) blocks)) main.1) is
+    (ap (order_at (graph_of (block_places blocks) blocks)) main.1) is
   where
-    within : (main : ℕ) → place_of blocks (codes "main") ≡ Some main → (order : List ℕ)
-        → IsOrder (graph_of (place_of blocks) blocks) main order
+    within : (main : ℕ) → block_places blocks (codes "main") ≡ Some main → (order : List ℕ)
+        → IsOrder (graph_of (block_places blocks) blocks) main order
         → IsWithin (length blocks)
-        (record { imports = imported_blocks (graph_of (place_of blocks) blocks); order = order })
+        (record { imports = imported_blocks (graph_of (block_places blocks) blocks); order = order })
     within main at order is_order =
-        let g = graph_of (place_of blocks) blocks in
-        let size : length g ≡ length blocks = length-map blocks (imports_of (place_of blocks)) in
+        let g = graph_of (block_places blocks) blocks in
+        let size : length g ≡ length blocks = length-map blocks (imports_of (block_places blocks)) in
         record {
           lists = length-map g (λ is. map (λ i. i.block) is) ∙ size;
           imports = imported_inside g (length blocks) (λ b i m. omega (arith, graph_inside blocks b i m, size));
@@ -139,24 +139,24 @@ gives_plan blocks p has_main is =
               );
         }
 
-    by_faults : (main : ℕ) → place_of blocks (codes "main") ≡ Some main → (faults : List (ℕ × StructureFault))
+    by_faults : (main : ℕ) → block_places blocks (codes "main") ≡ Some main → (faults : List (ℕ × StructureFault))
         → structure_faults blocks ≡ faults
-        → (order : Order) → order ≡ order_of (graph_of (place_of blocks) blocks) main
-        → planned faults order (graph_of (place_of blocks) blocks) ≡ Ok p → IsPlan blocks p
+        → (order : Order) → order ≡ order_of (graph_of (block_places blocks) blocks) main
+        → planned faults order (graph_of (block_places blocks) blocks) ≡ Ok p → IsPlan blocks p
     by_faults main at (f ∷ fs) sound order order_is is = cc
     by_faults main at [] sound (LeadsBack line) order_is is = cc
     by_faults main at [] sound TooDeep order_is is =
-        absurd (ends_always (graph_of (place_of blocks) blocks) main (graph_inside blocks)
+        absurd (ends_always (graph_of (block_places blocks) blocks) main (graph_inside blocks)
         (main_inside blocks (codes "main") main at) (sym order_is))
     by_faults main at [] sound (Ordered order) order_is is =
-        let same : record { imports = imported_blocks (graph_of (place_of blocks) blocks); order = order } ≡ p = cc in
+        let same : record { imports = imported_blocks (graph_of (block_places blocks) blocks); order = order } ≡ p = cc in
         subst (IsPlan blocks) same record {
           sound = sound;
-          within = within main at order (gives_order (graph_of (place_of blocks) blocks) main order (sym order_is));
+          within = within main at order (gives_order (graph_of (block_places blocks) blocks) main order (sym order_is));
           imports = refl;
           main = main;
           main_is = at;
-          order = gives_order (graph_of (place_of blocks) blocks) main order (sym order_is);
+          order = gives_order (graph_of (block_places blocks) blocks) main order (sym order_is);
         }
 
 pub sound_plan : (result : Result Plan PlanFault) (blocks : List BlockText) → has_block blocks (codes "main") ≡ true

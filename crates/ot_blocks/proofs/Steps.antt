@@ -9,7 +9,7 @@ use Rattle.std.proofs.lemmas.List.{reverse-append, get_or-set_same, get_or-set_o
 use Rattle.std.proofs.lemmas.Option.{slice_get_within, slice_get_read, get_or_from_slice_get}
 use Rattle.ot_blocks.specs.Order.{Order, Ordered, LeadsBack, TooDeep, ◌>>=◌}
 use Rattle.ot_blocks.specs.Order.{walk_imports, walk_block, order_of, imports_at, is_in}
-use Rattle.ot_blocks.specs.Ordering.{IsInside}
+use Rattle.ot_blocks.specs.Ordering.{NamesBlocks}
 use Rattle.ot_blocks.proofs.SoFar.{blocks_of, rest_of, mark_of, new_count, new_work, path_work, Marked, SoFar}
 use Rattle.ot_blocks.specs.declared.walk.Import.{Import}
 use Rattle.ot_blocks.specs.declared.walk.Frame.{Frame}
@@ -321,7 +321,7 @@ module _ {g : List (List Import)} {whole : Order} {ms : List Mark} {b k : ℕ} {
       (slice_get_read ms (length ms) i read refl (omega (arith, s.marked.size, lt)) e) ∙ is
 
 -- an import that was read names a block of the file
-pub inside_at : (g : List (List Import)) (b k : ℕ) (i : Import) → IsInside g → slice_get (imports_at g b) k ≡ Some i
+pub inside_at : (g : List (List Import)) (b k : ℕ) (i : Import) → NamesBlocks g → slice_get (imports_at g b) k ≡ Some i
     → i.block < length g
 inside_at g b k i inside e = inside b i (IsMember-at (imports_at g b) k i e)
 

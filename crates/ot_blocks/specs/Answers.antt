@@ -27,7 +27,7 @@ plan_of p = record { imports = lists_of p.imports.items; order = p.order.items }
 abbrev pub Plans : Result Plan PlanFault → Result PlanText (ℕ × StructureFault) → Type 0
 Plans (Ok p) stated = stated ≡ Ok (plan_of p)
 Plans (Err (At line fault)) stated = stated ≡ Err (line, fault)
-Plans (Err Memory) stated = Unit {0}
+Plans (Err (Memory memory)) stated = Unit {0}
 
 -- ---- its parts
 
@@ -35,24 +35,24 @@ Plans (Err Memory) stated = Unit {0}
 abbrev pub Walks : Result (Vec ℕ Global) PlanFault → Order → Type 0
 Walks (Ok order) stated = stated ≡ Ordered order.items
 Walks (Err (At line fault)) stated = (stated ≡ LeadsBack line) × (fault ≡ ImportCycle)
-Walks (Err Memory) stated = Unit {0}
+Walks (Err (Memory memory)) stated = Unit {0}
 
 -- where a map of names leads
 abbrev pub places_in : {S : Type 0} → HashMap (Bor (List ℕ)) ℕ S → Places
 places_in map name = get_by (λ key. bytes_eq name key.now) map
 
 -- of a statement: what is stated, or its fault; no memory is taken
-abbrev pub Reads : Result (Option Import) PlanFault → Option (ℕ × StructureFault) → Option Import → Type 0
-Reads (Ok import) found stated = (found ≡ None) × (stated ≡ import)
-Reads (Err (At line fault)) found stated = found ≡ Some (line, fault)
-Reads (Err Memory) found stated = ⊥
+abbrev pub ReadsImport : Result (Option Import) PlanFault → Option (ℕ × StructureFault) → Option Import → Type 0
+ReadsImport (Ok import) found stated = (found ≡ None) × (stated ≡ import)
+ReadsImport (Err (At line fault)) found stated = found ≡ Some (line, fault)
+ReadsImport (Err (Memory memory)) found stated = ⊥
 
 -- the first of these faults
-abbrev pub IsFirst : PlanFault → List (ℕ × StructureFault) → Type 0
-IsFirst (At line fault) faults = first_fault faults ≡ Err (line, fault)
-IsFirst Memory faults = Unit {0}
+abbrev pub IsFirstFault : PlanFault → List (ℕ × StructureFault) → Type 0
+IsFirstFault (At line fault) faults = first_fault faults ≡ Err (line, fault)
+IsFirstFault (Memory memory) faults = Unit {0}
 
 -- of statements: what is stated, where there is no fault, or the first fault
 abbrev pub Collects : {A B : Type 0} → (A → B) → Result A PlanFault → List (ℕ × StructureFault) → B → Type 0
 Collects value (Ok x) faults stated = (faults ≡ []) × (stated ≡ value x)
-Collects value (Err e) faults stated = IsFirst e faults
+Collects value (Err e) faults stated = IsFirstFault e faults

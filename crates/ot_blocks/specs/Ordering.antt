@@ -5,8 +5,8 @@ use Rattle.ot_blocks.specs.Order.{Ordered, LeadsBack, TooDeep, order_of, imports
 use Rattle.ot_blocks.specs.declared.walk.Import.{Import}
 
 -- each import names a block of the file
-abbrev pub IsInside : List (List Import) → Type 0
-IsInside g = (b : ℕ) (i : Import) → IsMember i (imports_at g b) → i.block < length g
+abbrev pub NamesBlocks : List (List Import) → Type 0
+NamesBlocks g = (b : ℕ) (i : Import) → IsMember i (imports_at g b) → i.block < length g
 
 -- imports lead from one block to another, or it is the same one
 pub data Reaches (g : List (List Import)) : ℕ → ℕ → Type 0 where
@@ -32,7 +32,7 @@ pub record HasCycleAt (g : List (List Import)) (main line : ℕ) : Type 0 where
 
 -- a law: the bound is enough
 abbrev pub EndsAlways : Type 0
-EndsAlways = (g : List (List Import)) (main : ℕ) → IsInside g → main < length g → order_of g main ≢ TooDeep
+EndsAlways = (g : List (List Import)) (main : ℕ) → NamesBlocks g → main < length g → order_of g main ≢ TooDeep
 
 -- a law: what the order is
 abbrev pub GivesOrder : Type 0

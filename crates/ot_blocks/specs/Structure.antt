@@ -24,8 +24,8 @@ abbrev pub Places : Type 0
 Places = List ℕ → Option ℕ
 
 -- to the first block that has it
-abbrev pub place_of : List BlockText → Places
-place_of blocks name = position (λ b. bytes_eq b.name name) blocks
+abbrev pub block_places : List BlockText → Places
+block_places blocks name = position (λ b. bytes_eq b.name name) blocks
 
 -- ---- statements
 
@@ -74,7 +74,7 @@ faults_of places blocks = filter_map (fault_of places) (flat_map (λ b. b.statem
 
 -- the same where names lead to the file's own blocks
 abbrev pub structure_faults : List BlockText → List (ℕ × StructureFault)
-structure_faults blocks = faults_of (place_of blocks) blocks
+structure_faults blocks = faults_of (block_places blocks) blocks
 
 -- ---- the plan
 
@@ -94,7 +94,7 @@ order_at g (Some main) = order_of g main
 
 -- the order from `main`
 abbrev pub main_order : List BlockText → Order
-main_order blocks = order_at (graph_of (place_of blocks) blocks) (place_of blocks (codes "main"))
+main_order blocks = order_at (graph_of (block_places blocks) blocks) (block_places blocks (codes "main"))
 
 -- the first of these faults, or none
 abbrev pub first_fault : List (ℕ × StructureFault) → Result (Unit {0}) (ℕ × StructureFault)
@@ -112,7 +112,7 @@ abbrev pub plan : List BlockText → Result PlanText (ℕ × StructureFault)
 plan blocks =
     first_fault (structure_faults blocks) >>= λ sound.
     ordered (main_order blocks) >>= λ order.
-    Ok (record { imports = imported_blocks (graph_of (place_of blocks) blocks); order = order })
+    Ok (record { imports = imported_blocks (graph_of (block_places blocks) blocks); order = order })
 
 -- ---- laws
 
@@ -130,10 +130,10 @@ pub record IsWithin (count : ℕ) (p : PlanText) : Type 0 where
 pub record IsPlan (blocks : List BlockText) (p : PlanText) : Type 0 where
   pub sound : structure_faults blocks ≡ []
   pub within : IsWithin (length blocks) p
-  pub imports : p.imports ≡ imported_blocks (graph_of (place_of blocks) blocks)
+  pub imports : p.imports ≡ imported_blocks (graph_of (block_places blocks) blocks)
   pub main : ℕ
-  pub main_is : place_of blocks (codes "main") ≡ Some main
-  pub order : IsOrder (graph_of (place_of blocks) blocks) main p.order
+  pub main_is : block_places blocks (codes "main") ≡ Some main
+  pub order : IsOrder (graph_of (block_places blocks) blocks) main p.order
 
 -- a law: what the plan is
 abbrev pub GivesPlan : Type 0

@@ -1,3 +1,6 @@
+ghost use Rattle.ot_logic.specs.RanOut.{ran_out};
+
+use ot_logic::Memory;
 use std::alloc::{AllocError, AllocFailed};
 
 /// What is wrong with the blocks of a theory file, by the theory file format.
@@ -20,17 +23,17 @@ pub enum StructureFault {
 pub enum PlanFault {
     /// The first fault, and its line.
     At { line: u64, fault: StructureFault },
-    Memory,
+    Memory(Memory),
 }
 
 impl From<AllocError> for PlanFault {
     ghost use Rattle.std.specs.Prelude.{◌≡◌};
     ghost use Rattle.ot_blocks.specs.declared.fault.PlanFault.TheVariants.{Memory};
 
-    ghost from_gives = { λ _ r. r ≡ Memory };
+    ghost from_gives = { λ _ r. r ≡ Memory ran_out };
 
-    fn from(_: AllocError) -> PlanFault {
-        PlanFault::Memory
+    fn from(refused: AllocError) -> PlanFault {
+        PlanFault::Memory(Memory::from(refused))
     }
 }
 
@@ -38,9 +41,9 @@ impl<T: Drop> From<AllocFailed<T>> for PlanFault {
     ghost use Rattle.std.specs.Prelude.{◌≡◌};
     ghost use Rattle.ot_blocks.specs.declared.fault.PlanFault.TheVariants.{Memory};
 
-    ghost from_gives = { λ _ r. r ≡ Memory };
+    ghost from_gives = { λ _ r. r ≡ Memory ran_out };
 
-    fn from(_: AllocFailed<T>) -> PlanFault {
-        PlanFault::Memory
+    fn from(refused: AllocFailed<T>) -> PlanFault {
+        PlanFault::Memory(Memory::from(refused))
     }
 }

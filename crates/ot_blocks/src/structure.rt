@@ -1,9 +1,9 @@
 ghost use Rattle.std.specs.Prelude.{◌≡◌, ℕ, List, Some, None, true, IfOk, is_some, codes, map, filter_map};
 ghost use Rattle.ot_theory.specs.Theory.{has_block};
 ghost use Rattle.ot_theory.specs.Answers.{tag_of, tags_of, blocks_of};
-ghost use Rattle.ot_blocks.specs.Structure.{place_of, fault_of, import_of, faults_of};
+ghost use Rattle.ot_blocks.specs.Structure.{block_places, fault_of, import_of, faults_of};
 ghost use Rattle.ot_blocks.specs.Structure.{graph_of, imported_blocks, plan, IsPlan};
-ghost use Rattle.ot_blocks.specs.Answers.{lists_of, plan_of, Plans, places_in, Reads, Collects};
+ghost use Rattle.ot_blocks.specs.Answers.{lists_of, plan_of, Plans, places_in, ReadsImport, Collects};
 
 use crate::fault::{PlanFault, StructureFault};
 use crate::paths::is_package;
@@ -51,7 +51,7 @@ fn places_of<'a>(
     alloc: Global,
     blocks: &[Block<'a>],
 ) -> Result<HashMap<&'a [u8], usize>, AllocError>
-    ensures { IfOk result (λ places. (name : List ℕ) → places_in places name ≡ place_of (blocks_of blocks.now) name) }
+    ensures { IfOk result (λ places. (name : List ℕ) → places_in places name ≡ block_places (blocks_of blocks.now) name) }
 {
     let mut places = HashMap::new(alloc);
     'each: for (place, block) in blocks.iter().enumerate() {
@@ -111,7 +111,7 @@ fn import_of(
     statement: &Tag<'_>,
     places: &HashMap<&[u8], usize>,
 ) -> Result<Option<Import>, PlanFault>
-    ensures { Reads result
+    ensures { ReadsImport result
         (fault_of (places_in places.now) (tag_of statement.now))
         (import_of (places_in places.now) (tag_of statement.now)) }
 {

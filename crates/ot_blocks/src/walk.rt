@@ -1,6 +1,6 @@
 ghost use Rattle.std.specs.Prelude.{◌≡◌, ◌<◌, ◌+◌, ◌^◌, OnSome, length, slice_get};
 ghost use Rattle.ot_blocks.specs.Order.{order_of, imports_at};
-ghost use Rattle.ot_blocks.specs.Ordering.{IsInside};
+ghost use Rattle.ot_blocks.specs.Ordering.{NamesBlocks};
 ghost use Rattle.ot_blocks.specs.Answers.{Walks, lists_of};
 
 use crate::fault::{PlanFault, StructureFault};
@@ -34,7 +34,7 @@ pub(crate) fn order_from(
     imports: &[Vec<Import>],
     main: usize,
 ) -> Result<Vec<usize>, PlanFault>
-    requires inside { IsInside (lists_of imports.now) }
+    requires inside { NamesBlocks (lists_of imports.now) }
     requires main { main < length imports.now }
     ensures { Walks result (order_of (lists_of imports.now) main) }
 {

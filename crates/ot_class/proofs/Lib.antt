@@ -1,6 +1,6 @@
--- Lemmas on the table of nameless terms.
-pub mod ClassLemmas
-pub mod ClosingLemmas
-pub mod Distinct
-pub mod GatheringLemmas
+-- Lemmas on the table of alpha classes.
+pub mod ShapeLemmas
+pub mod Growing
+pub mod Making
+pub mod Freeing
 pub mod Spelling

@@ -1,7 +1,7 @@
--- What a reader of the contracts has to believe of the table of nameless terms.
+-- What a reader of the contracts has to believe of the table of alpha classes.
+pub mod Numbers
 pub mod Class
-pub mod Spelled
 pub mod Table
+pub mod Joins
+pub mod Spelled
 pub mod NodeHash
-pub mod Closing
-pub mod Gathering

@@ -1,43 +1,49 @@
--- The table of nameless terms.
-use Rattle.std.specs.Prelude.{◌≡◌, ℕ, ◌<◌, ◌≤◌, false, List}
-use Rattle.ot_logic.specs.Trees.{Variable, Tm, Free, Con, Bound, App, Abs}
-use Rattle.ot_logic.specs.Hol.{IsFree}
-use Rattle.ot_logic.specs.Naming.{numbers as alphabet}
+-- The table of alpha classes.
+use Rattle.std.specs.Prelude.{◌≡◌, ℕ, ◌<◌, List, Option, Some, None, length}
+use Rattle.ot_logic.specs.Table.{IsInjective}
+use Rattle.ot_logic.specs.Trees.{Variable}
 use Rattle.ot_logic.specs.Interned.{trees_of, IsSound}
-use Rattle.ot_class.specs.Class.{numbered, variable_by, class_at}
-use Rattle.ot_class.specs.declared.node.ClassNode.{ClassNode}
-use Rattle.ot_class.specs.declared.node.ClassNode.TheVariants as node
-use Rattle.ot_class.specs.declared.table.NodeInfo.{NodeInfo}
+use Rattle.ot_shape.specs.Shape.{Shape, Hole, Constant, Apply, Bind}
+use Rattle.ot_lists.specs.Variables.{numbered}
+use Rattle.ot_lists.specs.Maps.{map_at}
+use Rattle.ot_lists.specs.declared.joining.Joined.{Joined}
+use Rattle.ot_class.specs.Class.{shape_at}
+use Rattle.ot_class.specs.Joins.{AreJoins}
+use Rattle.ot_class.specs.declared.node.ShapeNode.{ShapeNode}
+use Rattle.ot_class.specs.declared.node.ShapeNode.TheVariants as node
+use Rattle.ot_class.specs.declared.node.Pair.{Pair}
 
--- the tree of a node
-abbrev pub tree_of : List (Tm ℕ) → ClassNode → Tm ℕ
-tree_of cs (node.Free v) = Free (variable_by v.name v.ty)
-tree_of cs (node.Const n t) = Con n (numbered t)
-tree_of cs (node.Bound k) = Bound k
-tree_of cs (node.App f x) = App (class_at cs f) (class_at cs x)
-tree_of cs (node.Abs t b) = Abs (numbered t) (class_at cs b)
+-- the shape of a node
+abbrev pub shape_of : List (List (Option ℕ)) → List (Shape ℕ) → ShapeNode → Shape ℕ
+shape_of ms ss node.Var = Hole
+shape_of ms ss (node.Const n t) = Constant n (numbered t)
+shape_of ms ss (node.App f x m) = Apply (shape_at ss f) (shape_at ss x) (map_at ms m)
+shape_of ms ss (node.Abs t k b) = Bind (numbered t) (Some k) (shape_at ss b)
+shape_of ms ss (node.Unused t b) = Bind (numbered t) None (shape_at ss b)
 
--- the node's parts have numbers below k
-abbrev pub AreBelow : ℕ → ClassNode → Type 0
-AreBelow k (node.Free v) = Unit {0}
-AreBelow k (node.Const n t) = Unit {0}
-AreBelow k (node.Bound j) = Unit {0}
-AreBelow k (node.App f x) = (f < k) × (x < k)
-AreBelow k (node.Abs t b) = b < k
+-- the node's numbers are of the tables
+abbrev pub AreBelow : ℕ → ℕ → ShapeNode → Type 0
+AreBelow maps k node.Var = Unit {0}
+AreBelow maps k (node.Const n t) = Unit {0}
+AreBelow maps k (node.App f x m) = (f < k) × (x < k) × (m < maps)
+AreBelow maps k (node.Abs t j b) = b < k
+AreBelow maps k (node.Unused t b) = b < k
 
--- no free variable of the tree has a newer name; a closed tree has none, and any other has one
-pub record Describes (t : Tm ℕ) (b : NodeInfo) : Type 0 where
-  pub most : (w : Variable ℕ) → IsFree alphabet w t → w.name ≤ b.newest
-  pub closed : (w : Variable ℕ) → IsFree alphabet w t → b.closed ≡ false
-  pub unclosed : b.closed ≡ false → (w : Variable ℕ) × IsFree alphabet w t
+-- nothing stands beside a node
+abbrev pub Describes : Shape ℕ → Unit {0} → Type 0
+Describes s b = Unit {0}
 
-abbrev pub IsBeside : List (Tm ℕ) → ClassNode → NodeInfo → Type 0
-IsBeside cs n b = Describes (tree_of cs n) b
+abbrev pub IsBeside : List (Shape ℕ) → ShapeNode → Unit {0} → Type 0
+IsBeside ss n b = Unit {0}
 
--- the trees of the entries
-abbrev pub class_trees : List (ClassNode × NodeInfo) → List (Tm ℕ)
-class_trees es = trees_of tree_of es
+-- the shapes of the entries
+abbrev pub shapes_of : List (List (Option ℕ)) → List (ShapeNode × Unit {0}) → List (Shape ℕ)
+shapes_of ms es = trees_of (shape_of ms) es
 
--- what the nodes keep
-abbrev pub AreClassNodes : List (ClassNode × NodeInfo) → List (Tm ℕ) → Type 0
-AreClassNodes es cs = IsSound tree_of AreBelow IsBeside es cs
+-- what the fields keep
+pub record IsClassSound (ls : List (List (Variable ℕ))) (ms : List (List (Option ℕ))) (js : List (Pair × Joined))
+    (es : List (ShapeNode × Unit {0})) : Type 0 where
+  pub nodes : IsSound (shape_of ms) (AreBelow (length ms)) IsBeside es (shapes_of ms es)
+  pub joins : AreJoins ls ms js
+  pub lists : IsInjective ls
+  pub maps : IsInjective ms

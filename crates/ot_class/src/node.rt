@@ -1,69 +1,73 @@
-ghost use Rattle.ot_class.specs.NodeHash.{node_writes, node_writes-alike};
+//! What the tables of classes keep.
+ghost use Rattle.ot_class.specs.NodeHash.{node_writes, node_writes-alike, pair_writes, pair_writes-alike};
 
+use crate::id::ShapeId;
+use ot_lists::{ListId, MapId};
 use ot_logic::NameId;
 use ot_type::TypeId;
 use std::hash::{Hash, Hasher};
-use std::marker::Model;
 
-/// The number of a nameless term in its table.
-#[derive(Clone, Copy, PartialEq, Eq, Hash)]
-pub struct ClassId(pub(crate) u32);
-
-impl Model for ClassId {
-    ghost use Rattle.std.specs.Prelude.{ℕ};
-
-    ghost Value = { ℕ };
-
-    ghost view = { λ n. n.0 };
-
-    ghost inverse = { λ n. record { 0 = n } };
-}
-
-/// A variable, by the numbers of its name and its type.
-#[derive(Clone, Copy, PartialEq, Eq, Hash)]
-pub struct Key {
-    pub name: NameId,
-    pub ty: TypeId,
-}
-
-/// A nameless term, its parts by number.
+/// A shape, its parts by number.
 #[derive(Clone, Copy, PartialEq, Eq)]
-pub(crate) enum ClassNode {
-    // A free variable.
-    Free(Key),
+pub(crate) enum ShapeNode {
+    // A variable.
+    Var,
     // A constant at a type.
     Const(NameId, TypeId),
-    // The place of an abstraction around, the innermost 0.
-    Bound(u32),
-    // A function applied to an argument.
-    App(ClassId, ClassId),
-    // An abstraction over a type.
-    Abs(TypeId, ClassId),
+    // A function, an argument, and which of the argument's holes the function has.
+    App(ShapeId, ShapeId, MapId),
+    // The abstraction over a type of a hole from a body.
+    Abs(TypeId, u32, ShapeId),
+    // An abstraction over a type that binds nothing in its body.
+    Unused(TypeId, ShapeId),
 }
 
-// The two numbers of an application are one write: a table hashes a node at each call.
-impl Hash for ClassNode {
+// The two shapes of an application are one write: a table hashes a node at each call.
+impl Hash for ShapeNode {
     ghost hash_input = { node_writes };
 
     ghost respects_eq = { node_writes-alike };
 
     fn hash<H: Hasher>(&self, state: &mut H) {
         match *self {
-            ClassNode::Free(v) => {
-                state.write_u8(0);
-                v.hash(state);
-            }
-            ClassNode::Const(name, ty) => {
+            ShapeNode::Var => state.write_u8(0),
+            ShapeNode::Const(name, ty) => {
                 state.write_u8(1);
                 name.hash(state);
                 ty.hash(state);
             }
-            ClassNode::Bound(place) => state.write_u32(place),
-            ClassNode::App(f, x) => state.write_u64(f.0 as u64 + x.0 as u64 * (1 << 32)),
-            ClassNode::Abs(ty, body) => {
+            ShapeNode::App(f, x, map) => {
+                state.write_u64(f.0 as u64 + x.0 as u64 * (1 << 32));
+                map.hash(state);
+            }
+            ShapeNode::Abs(ty, hole, body) => {
+                state.write_u8(2);
+                ty.hash(state);
+                hole.hash(state);
+                body.hash(state);
+            }
+            ShapeNode::Unused(ty, body) => {
+                state.write_u8(3);
                 ty.hash(state);
                 body.hash(state);
             }
         }
+    }
+}
+
+/// The lists of a function and of its argument.
+#[derive(Clone, Copy, PartialEq, Eq)]
+pub(crate) struct Pair {
+    pub(crate) f: ListId,
+    pub(crate) x: ListId,
+}
+
+impl Hash for Pair {
+    ghost hash_input = { pair_writes };
+
+    ghost respects_eq = { pair_writes-alike };
+
+    fn hash<H: Hasher>(&self, state: &mut H) {
+        state.write_u64(self.f.number() as u64 + self.x.number() as u64 * (1 << 32));
     }
 }

@@ -1,191 +1,204 @@
-//! The table: its nodes, what stands beside them, and how they are made.
-ghost use Rattle.std.specs.Prelude.{◌≡◌, ◌<◌, ℕ, [], Some, slice_get, length, IfOk, Decides};
-ghost use Rattle.ot_logic.specs.Table.{Extends, IsInjective};
-ghost use Rattle.ot_logic.specs.Hol.{close, IsClosed};
+//! The table: its shapes and lists, and how classes are made.
+ghost use Rattle.std.specs.Prelude.{◌≡◌, ◌↔◌, ◌<◌, ℕ, [], ◌∷◌, Some, map, slice_get, length, IfOk, Decides};
+ghost use Rattle.ot_logic.specs.Lists.{IsMember, AreDistinct};
+ghost use Rattle.ot_logic.specs.NamedTerms.{place};
 ghost use Rattle.ot_logic.specs.Naming.{numbers};
-ghost use Rattle.ot_logic.specs.Trees.{Free, Con, App, Abs};
+ghost use Rattle.ot_shape.specs.Shape.{joined, without, var_class, const_class, app_class, abs_class};
+ghost use Rattle.ot_lists.specs.Variables.{numbered, variable_by, variable_of, list_at};
 
-mod closing;
 mod free;
 
-use crate::node::{ClassId, ClassNode, Key};
+use crate::id::{ClassId, ShapeId};
+use crate::node::{Pair, ShapeNode};
 use indexmap::IndexMap;
+use ot_lists::{Joined, Key, ListId, Lists, Maps, join};
 use ot_logic::{Memory, NameId};
 use ot_type::TypeId;
 use std::alloc::Global;
 use std::marker::Model;
 
-/// What stands beside a node. No free variable has a name with a greater number than `newest`, and the tree is `closed`
-/// exactly where none is free. `size` is how many nodes the tree has, as far as a `u16` goes; how long a call takes
-/// depends on it, and no answer does.
-#[derive(Clone, Copy)]
-struct NodeInfo {
-    newest: NameId,
-    closed: bool,
-    size: u16,
-}
-
-/// Nameless terms, each with a number that it keeps. Types are taken by number, so contracts see the type with the
-/// number k as the type variable k.
+/// Alpha classes, each with a number that it keeps. Types are taken by number, so contracts see the type with the number
+/// k as the type variable k.
 #[derive(Drop)]
 pub struct Classes {
-    nodes: IndexMap<ClassNode, NodeInfo>,
+    lists: Lists,
+    maps: Maps,
+    // Lists that were joined, with what came of it.
+    joins: IndexMap<Pair, Joined>,
+    shapes: IndexMap<ShapeNode, ()>,
 }
 
 impl Model for Classes {
-    ghost use Rattle.std.specs.Prelude.{ℕ, List};
-    ghost use Rattle.std.specs.Coded.{coded_list, coded_ℕ};
-    ghost use Rattle.ot_logic.specs.Trees.{Tm};
-    ghost use Rattle.ot_logic.specs.Codes.{coded_tm};
+    ghost use Rattle.ot_class.specs.Class.{ClassTable, coded_table};
 
-    ghost Value = { List (Tm ℕ) };
+    ghost Value = { ClassTable };
 
-    ghost coded = { coded_list (coded_tm coded_ℕ) };
+    ghost coded = { coded_table };
 
-    ghost use Rattle.ot_class.specs.Table.{class_trees, AreClassNodes};
+    ghost use Rattle.ot_class.specs.Table.{shapes_of, IsClassSound};
 
-    ghost view = { λ t. class_trees t.nodes.entries };
+    ghost view = { λ t. record { shapes = shapes_of t.maps t.shapes.entries; lists = t.lists; maps = t.maps } };
 
-    ghost invariant = { λ t. AreClassNodes t.nodes.entries (class_trees t.nodes.entries) };
+    ghost invariant = { λ t. IsClassSound t.lists t.maps t.joins.entries t.shapes.entries };
 }
 
 impl Classes {
-    ghost use Rattle.ot_class.specs.Class.{class_at, numbered, variable_by};
-    ghost use Rattle.ot_class.specs.Table.{tree_of, AreBelow, Describes};
+    ghost use Rattle.ot_class.specs.Class.{class_at, shape_at, IsNumber, IsNumberOf, Grows, AreOnce};
+    ghost use Rattle.ot_class.specs.Table.{shape_of, AreBelow};
 
-    /// The table with no terms. It takes no memory.
+    /// The table with no classes. It takes no memory.
     pub fn new(alloc: Global) -> Classes
-        ensures { result ≡ [] }
+        ensures { result ≡ record { shapes = []; lists = []; maps = [] } }
     {
         Classes {
-            nodes: IndexMap::new(alloc),
+            lists: Lists::new(alloc),
+            maps: Maps::new(alloc),
+            joins: IndexMap::new(alloc),
+            shapes: IndexMap::new(alloc),
         }
     }
 
-    /// A free variable.
-    pub fn free(&mut self, name: NameId, ty: TypeId) -> Result<ClassId, Memory>
-        ensures ok { IfOk result (λ id. slice_get self.new id ≡ Some (Free (variable_by name ty))) }
-        ensures extends { Extends self.old self.new }
-        ensures once { IsInjective self.new }
+    /// The class of a variable.
+    pub fn var(&mut self, v: Key) -> Result<ClassId, Memory>
+        ensures ok { IfOk result (IsNumberOf self.new (var_class numbers (variable_of v))) }
+        ensures grows { Grows self.old self.new }
+        ensures once { AreOnce self.new }
     {
-        self.intern(ClassNode::Free(Key { name, ty }))
+        let shape = self.intern(ShapeNode::Var)?;
+        let list = self.list_of(v)?;
+        Ok(ClassId::new(shape, list))
     }
 
-    /// A constant at a type.
+    /// The class of a constant at a type.
     pub fn constant(&mut self, name: NameId, ty: TypeId) -> Result<ClassId, Memory>
-        ensures ok { IfOk result (λ id. slice_get self.new id ≡ Some (Con name (numbered ty))) }
-        ensures extends { Extends self.old self.new }
-        ensures once { IsInjective self.new }
+        ensures ok { IfOk result (IsNumberOf self.new (const_class numbers name (numbered ty))) }
+        ensures grows { Grows self.old self.new }
+        ensures once { AreOnce self.new }
     {
-        self.intern(ClassNode::Const(name, ty))
+        let shape = self.intern(ShapeNode::Const(name, ty))?;
+        let list = self.empty_list()?;
+        Ok(ClassId::new(shape, list))
     }
 
-    /// The application of a function to an argument.
+    /// The class of the application of a function to an argument.
     pub fn app(&mut self, f: ClassId, x: ClassId) -> Result<ClassId, Memory>
-        requires f { f < length self.old }
-        requires x { x < length self.old }
+        requires f { IsNumber self.old f }
+        requires x { IsNumber self.old x }
         ensures ok { IfOk result
-            (λ id. slice_get self.new id ≡ Some (App (class_at self.old f) (class_at self.old x))) }
-        ensures extends { Extends self.old self.new }
-        ensures once { IsInjective self.new }
+            (IsNumberOf self.new (app_class numbers (class_at self.old f) (class_at self.old x))) }
+        ensures grows { Grows self.old self.new }
+        ensures once { AreOnce self.new }
     {
-        self.intern(ClassNode::App(f, x))
+        let left = f.shape();
+        let right = x.shape();
+        let left_list = f.list();
+        let right_list = x.list();
+        let joined = self.join(left_list, right_list)?;
+        let shape = self.intern(ShapeNode::App(left, right, joined.map))?;
+        Ok(ClassId::new(shape, joined.list))
     }
 
-    /// The abstraction of a variable from a body. A part that is shared is worked on once, or is small.
-    pub fn abs(&mut self, name: NameId, ty: TypeId, body: ClassId) -> Result<ClassId, Memory>
-        requires { body < length self.old }
-        ensures ok { IfOk result (λ id. slice_get self.new id
-            ≡ Some (Abs (numbered ty) (close numbers (variable_by name ty) (class_at self.old body)))) }
-        ensures extends { Extends self.old self.new }
-        ensures once { IsInjective self.new }
+    /// The class of the abstraction of a variable from a body.
+    pub fn abs(&mut self, v: Key, body: ClassId) -> Result<ClassId, Memory>
+        requires { IsNumber self.old body }
+        ensures ok { IfOk result
+            (IsNumberOf self.new (abs_class numbers (variable_of v) (class_at self.old body))) }
+        ensures grows { Grows self.old self.new }
+        ensures once { AreOnce self.new }
     {
-        let mut done = IndexMap::new(*self.nodes.allocator());
-        let body = self.close_at(Key { name, ty }, 0, body, &mut done)?;
-        self.intern(ClassNode::Abs(ty, body))
-    }
-
-    /// Whether no variable is free in a nameless term.
-    pub fn is_closed(&self, id: ClassId) -> bool
-        requires { id < length self.now }
-        ensures { Decides result (IsClosed numbers (class_at self.now id)) }
-    {
-        self.beside(id).closed
-    }
-
-    /// The node of a number. Its parts have lower numbers.
-    fn node(&self, id: ClassId) -> &ClassNode
-        requires { id < length self.now }
-        ensures tree { slice_get self.now id ≡ Some (tree_of self.now result.now) }
-        ensures below { AreBelow id result.now }
-        ensures once { IsInjective self.now }
-    {
-        match self.nodes.get_index(id.0 as usize) {
-            Some((node, _)) => node,
-            None => unreachable!(),
-        }
-    }
-
-    /// What stands beside the node of a number.
-    fn beside(&self, id: ClassId) -> &NodeInfo
-        requires { id < length self.now }
-        ensures describes { Describes (class_at self.now id) result.now }
-        ensures once { IsInjective self.now }
-    {
-        match self.nodes.get_index(id.0 as usize) {
-            Some((_, beside)) => beside,
-            None => unreachable!(),
-        }
-    }
-
-    /// What is to stand beside a new node.
-    fn beside_new(&self, node: &ClassNode) -> NodeInfo
-        requires { AreBelow (length self.now) node.now }
-        ensures { Describes (tree_of self.now node.now) result }
-    {
-        match *node {
-            ClassNode::Free(v) => NodeInfo {
-                newest: v.name,
-                closed: false,
-                size: 1,
-            },
-            ClassNode::Const(_, _) | ClassNode::Bound(_) => NodeInfo {
-                newest: NameId::ARROW,
-                closed: true,
-                size: 1,
-            },
-            ClassNode::App(f, x) => {
-                let (f, x) = (self.beside(f), self.beside(x));
-                NodeInfo {
-                    newest: f.newest.max(x.newest),
-                    closed: f.closed & x.closed,
-                    size: f.size.saturating_add(x.size).saturating_add(1),
-                }
+        let place = self.place_of(body.list(), &v)?;
+        match place {
+            None => {
+                let shape = self.intern(ShapeNode::Unused(v.ty, body.shape()))?;
+                Ok(ClassId::new(shape, body.list()))
             }
-            ClassNode::Abs(_, body) => {
-                let body = self.beside(body);
-                NodeInfo {
-                    newest: body.newest,
-                    closed: body.closed,
-                    size: body.size.saturating_add(1),
-                }
+            Some(hole) => {
+                let shape = self.intern(ShapeNode::Abs(v.ty, hole, body.shape()))?;
+                let list = self.list_without(body.list(), v)?;
+                Ok(ClassId::new(shape, list))
             }
         }
+    }
+
+    /// The place of a variable in a list, where it stands there.
+    fn place_of(&self, id: ListId, v: &Key) -> Result<Option<u32>, Memory>
+        requires { id < length self.now.lists }
+        ensures place { IfOk result (λ o. o ≡ place numbers (list_at self.now.lists id) (variable_of v.now)) }
+        ensures once { AreOnce self.now }
+    {
+        self.lists.place_of(id, v)
+    }
+
+    /// The list of one variable.
+    fn list_of(&mut self, v: Key) -> Result<ListId, Memory>
+        ensures ok { IfOk result (λ id. slice_get self.new.lists id ≡ Some (variable_of v ∷ [])) }
+        ensures grows { Grows self.old self.new }
+        ensures once { AreOnce self.new }
+    {
+        let empty = self.empty_list()?;
+        Ok(self.lists.push(empty, v)?)
+    }
+
+    /// The list without variables.
+    fn empty_list(&mut self) -> Result<ListId, Memory>
+        ensures ok { IfOk result (λ id. slice_get self.new.lists id ≡ Some []) }
+        ensures grows { Grows self.old self.new }
+        ensures once { AreOnce self.new }
+    {
+        Ok(self.lists.empty()?)
+    }
+
+    /// A list without a variable.
+    fn list_without(&mut self, id: ListId, v: Key) -> Result<ListId, Memory>
+        requires { id < length self.old.lists }
+        ensures ok { IfOk result
+            (λ r. slice_get self.new.lists r ≡ Some (without numbers (variable_of v) (list_at self.old.lists id))) }
+        ensures grows { Grows self.old self.new }
+        ensures once { AreOnce self.new }
+    {
+        Ok(self.lists.without(id, v)?)
+    }
+
+    /// The list of a function with the variables that an argument adds, and which holes of the argument the function
+    /// has. What comes of two lists is remembered.
+    fn join(&mut self, f: ListId, x: ListId) -> Result<Joined, Memory>
+        requires f { f < length self.old.lists }
+        requires x { x < length self.old.lists }
+        ensures list { IfOk result (λ j. slice_get self.new.lists j.list
+            ≡ Some (joined numbers (list_at self.old.lists f) (list_at self.old.lists x))) }
+        ensures maps { IfOk result (λ j. slice_get self.new.maps j.map
+            ≡ Some (map (place numbers (list_at self.old.lists f)) (list_at self.old.lists x))) }
+        ensures shapes { self.new.shapes ≡ self.old.shapes }
+        ensures grows { Grows self.old self.new }
+        ensures once { AreOnce self.new }
+    {
+        let pair = Pair { f, x };
+        if let Some(joined) = self.joins.get(&pair) {
+            return Ok(Joined {
+                map: joined.map,
+                list: joined.list,
+            });
+        }
+        let joined = join(&mut self.lists, &mut self.maps, f, x)?;
+        let kept = Joined {
+            map: joined.map,
+            list: joined.list,
+        };
+        self.joins.insert(pair, kept)?;
+        Ok(joined)
     }
 
     /// The number of a node, which is added where it is new.
-    #[inline(always)]
-    fn intern(&mut self, node: ClassNode) -> Result<ClassId, Memory>
-        requires { AreBelow (length self.old) node }
-        ensures ok { IfOk result (λ id. slice_get self.new id ≡ Some (tree_of self.old node)) }
-        ensures extends { Extends self.old self.new }
-        ensures once { IsInjective self.new }
+    fn intern(&mut self, node: ShapeNode) -> Result<ShapeId, Memory>
+        requires { AreBelow (length self.old.maps) (length self.old.shapes) node }
+        ensures ok { IfOk result
+            (λ id. slice_get self.new.shapes id ≡ Some (shape_of self.old.maps self.old.shapes node)) }
+        ensures lists { self.new.lists ≡ self.old.lists }
+        ensures grows { Grows self.old self.new }
+        ensures once { AreOnce self.new }
     {
-        if self.nodes.len() > u32::MAX as usize {
-            return Err(Memory);
-        }
-        let beside = self.beside_new(&node);
-        let (index, _) = self.nodes.insert_full(node, beside)?;
-        Ok(ClassId(index as u32))
+        Memory::unless_full(self.shapes.len())?;
+        let (index, _) = self.shapes.insert_full(node, ())?;
+        Ok(ShapeId(index as u32))
     }
 }

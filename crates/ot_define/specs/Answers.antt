@@ -24,7 +24,7 @@ define_fault (code.AlreadyDefined s) = Some (AlreadyDefined (symbol_of s))
 define_fault (code.SymbolInUse s) = Some (SymbolInUse (symbol_of s))
 define_fault code.NotClosed = Some NotClosed
 define_fault code.TypeVarEscapes = Some TypeVarEscapes
-define_fault code.Memory = None
+define_fault (code.Memory memory) = None
 
 -- the check's answer is the stated one; running out of memory may be answered at any point
 abbrev pub Checks : Result (Unit {0}) DefineFault → Result (Unit {0}) (Fault ℕ) → Type 0

@@ -1,6 +1,7 @@
 //! Why a definition is refused.
 ghost use Rattle.std.specs.Prelude.{◌≡◌};
 ghost use Rattle.ot_define.specs.declared.fault.DefineFault.TheVariants.{Memory as OutOfMemory};
+ghost use Rattle.ot_logic.specs.RanOut.{ran_out};
 
 use ot_logic::Memory;
 use ot_term::Symbol;
@@ -28,29 +29,29 @@ pub enum DefineFault {
     /// A type variable of the term is not in its type.
     TypeVarEscapes,
     /// Memory ran out.
-    Memory,
+    Memory(Memory),
 }
 
 impl From<Memory> for DefineFault {
-    ghost from_gives = { λ _ r. r ≡ OutOfMemory };
+    ghost from_gives = { λ _ r. r ≡ OutOfMemory ran_out };
 
-    fn from(_: Memory) -> DefineFault {
-        DefineFault::Memory
+    fn from(memory: Memory) -> DefineFault {
+        DefineFault::Memory(memory)
     }
 }
 
 impl<T: Drop> From<AllocFailed<T>> for DefineFault {
-    ghost from_gives = { λ _ r. r ≡ OutOfMemory };
+    ghost from_gives = { λ _ r. r ≡ OutOfMemory ran_out };
 
-    fn from(_: AllocFailed<T>) -> DefineFault {
-        DefineFault::Memory
+    fn from(refused: AllocFailed<T>) -> DefineFault {
+        DefineFault::Memory(Memory::from(refused))
     }
 }
 
 impl From<AllocError> for DefineFault {
-    ghost from_gives = { λ _ r. r ≡ OutOfMemory };
+    ghost from_gives = { λ _ r. r ≡ OutOfMemory ran_out };
 
-    fn from(_: AllocError) -> DefineFault {
-        DefineFault::Memory
+    fn from(refused: AllocError) -> DefineFault {
+        DefineFault::Memory(Memory::from(refused))
     }
 }

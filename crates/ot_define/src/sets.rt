@@ -18,9 +18,9 @@ pub(crate) fn add_all<T: Copy + Eq + Hash>(set: &mut IndexSet<T>, items: &[T]) -
 {
     let before = set.len();
     for item in items {
-        if let Err(_) = set.insert(*item) {
+        if let Err(refused) = set.insert(*item) {
             set.truncate(before);
-            return Err(Memory);
+            return Err(Memory::from(refused));
         }
     }
     Ok(())

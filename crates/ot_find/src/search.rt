@@ -89,7 +89,7 @@ impl Search {
                 self.count = one_more(self.count, self.max);
             }
             Ok(None) => {}
-            Err(Memory) => self.page.stop(PrintFault::Memory),
+            Err(memory) => self.page.stop(PrintFault::Memory(memory)),
         }
     }
 

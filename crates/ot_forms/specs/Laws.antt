@@ -71,15 +71,15 @@ OneTermRefusal = (hidden : List (Symbol Name)) → IsNotation hidden → (text :
     → IsTermRefused hidden text k f → IsTermRefused hidden text j g → (k ≡ j) × (f ≡ g)
 
 -- the refusal is that of the first of the refused parts
-abbrev pub IsFirst : {A : Type 0} → Result A Refusal → List Part → Type 0
-IsFirst (Ok t) ps = ps ≡ []
-IsFirst (Err r) ps = (stop : ℕ) × (rest : List Part) × (ps ≡ record { start = r.0; stop = stop; fault = r.1 } ∷ rest)
+abbrev pub IsFirstRefusal : {A : Type 0} → Result A Refusal → List Part → Type 0
+IsFirstRefusal (Ok t) ps = ps ≡ []
+IsFirstRefusal (Err r) ps = (stop : ℕ) × (rest : List Part) × (ps ≡ record { start = r.0; stop = stop; fault = r.1 } ∷ rest)
 
 -- and these stand in the order in which they count: of a term, and of a line
 abbrev pub FirstCounts : Type 0
 FirstCounts = (hidden : List (Symbol Name)) (l : Around) (wanted : Bool) (k : ℕ) (w : Written) → IsWritten w
-    → IsFirst (meaning hidden l wanted k w) (parts hidden l wanted k w) × AreOrdered (parts hidden l wanted k w)
+    → IsFirstRefusal (meaning hidden l wanted k w) (parts hidden l wanted k w) × AreOrdered (parts hidden l wanted k w)
 
 abbrev pub FirstOfLineCounts : Type 0
 FirstOfLineCounts = (hidden : List (Symbol Name)) (q : WrittenSequent) → AllByRecursion IsWritten q.hyps
-    → IsWritten q.concl → IsFirst (line_meaning hidden q) (line_parts hidden q) × AreOrdered (line_parts hidden q)
+    → IsWritten q.concl → IsFirstRefusal (line_meaning hidden q) (line_parts hidden q) × AreOrdered (line_parts hidden q)

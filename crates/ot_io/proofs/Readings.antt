@@ -6,7 +6,7 @@ use Rattle.std.specs.Io.KnownBytes.{Consumes, IsAtEnd}
 use Rattle.ot_io.specs.Folder.{Folder, bytes_at, GivesFile}
 use Rattle.ot_io.specs.Keeping.{KeepsFiles}
 use Rattle.ot_io.specs.Reading.{Reads, HasRead}
-use Rattle.ot_io.specs.Readings.{Missing, Whole, Front, reading_of, IsOf, Readings, Agrees, HasReadFiles}
+use Rattle.ot_io.specs.Readings.{Missing, Whole, Front, reading_of, MayBeOf, Readings, Agrees, HasReadFiles}
 
 -- a folder that agrees with more readings agrees with fewer
 agrees-first : (folder : Folder) (xs ys : Readings) → Agrees folder (xs ++ ys) → Agrees folder xs
@@ -73,7 +73,7 @@ Files-if (Some folder) P Q h to = to folder (Files-told folder P h)
 
 -- the file that was opened may be what was read of
 is-of : (ended : Bool) (read bytes : List ℕ) (left' : Option (List ℕ)) → Consumes (Some bytes) left' read
-    → (ended ≡ true → IsAtEnd left') → IsOf (reading_of ended read) (Some bytes)
+    → (ended ≡ true → IsAtEnd left') → MayBeOf (reading_of ended read) (Some bytes)
 is-of true read bytes None lost end = absurd lost
 is-of true read bytes (Some rest) lost end =
     ap Some (lost ∙ ap (λ z. read ++ z) (end refl) ∙ append-nil read)
@@ -81,7 +81,7 @@ is-of false read bytes None lost end = absurd lost
 is-of false read bytes (Some rest) lost end = (rest, ap Some lost)
 
 of-holds : (ended : Bool) (read : List ℕ) (file : Option (List ℕ)) (P : List ℕ → Type 0)
-    → ((rest : List ℕ) → (ended ≡ true → rest ≡ []) → P (read ++ rest)) → IsOf (reading_of ended read) file
+    → ((rest : List ℕ) → (ended ≡ true → rest ≡ []) → P (read ++ rest)) → MayBeOf (reading_of ended read) file
     → (bytes : List ℕ) × (file ≡ Some bytes) × P bytes
 of-holds true read file P holds is = (read ++ [], is ∙ ap Some (sym (append-nil read)), holds [] (λ e. refl))
 of-holds false read file P holds is = (read ++ is.0, is.1, holds is.0 (λ e. cc))

@@ -15,10 +15,10 @@ reading_of true bytes = Whole bytes
 reading_of false bytes = Front bytes
 
 -- a file, if there is one, may be what was read of
-abbrev pub IsOf : Reading → Option (List ℕ) → Type 0
-IsOf Missing file = file ≡ None
-IsOf (Whole bytes) file = file ≡ Some bytes
-IsOf (Front bytes) file = (rest : List ℕ) × (file ≡ Some (bytes ++ rest))
+abbrev pub MayBeOf : Reading → Option (List ℕ) → Type 0
+MayBeOf Missing file = file ≡ None
+MayBeOf (Whole bytes) file = file ≡ Some bytes
+MayBeOf (Front bytes) file = (rest : List ℕ) × (file ≡ Some (bytes ++ rest))
 
 -- the paths that were asked for, in order, and what was read of each
 abbrev pub Readings : Type 0
@@ -26,7 +26,7 @@ Readings = List (List ℕ × Reading)
 
 -- a folder may be the one that was read of
 abbrev pub Agrees : Folder → Readings → Type 0
-Agrees folder readings = AllByRecursion (λ reading. IsOf reading.1 (bytes_at folder reading.0)) readings
+Agrees folder readings = AllByRecursion (λ reading. MayBeOf reading.1 (bytes_at folder reading.0)) readings
 
 -- files were read, with which a folder that is told agrees; and of every folder that agrees with them this holds
 pub record HasReadFiles (told : Option Folder) (Holds : Folder → Type 0) : Type 0 where

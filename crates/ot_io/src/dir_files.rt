@@ -6,7 +6,8 @@ use crate::source::{Failed, Source};
 use std::io::{ErrorKind, Read};
 use std::{fs, rt};
 
-/// The files of a system, by their paths, with counts of its failures. No content is known.
+/// The files of a system, by their paths, with counts of its failures. What they hold is known as far as the system tells
+/// it; a real one tells nothing.
 ///
 /// A path that the system doesn't find is a missing file. All else that it answers in place of a file
 /// or of its bytes is a failure: at a folder, a path through a file, a missing permission, a byte 0.

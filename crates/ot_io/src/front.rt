@@ -3,6 +3,7 @@ ghost use Rattle.ot_io.specs.Causes.{CountRose};
 ghost use Rattle.ot_io.specs.Reading.{HasRead};
 
 use crate::source::{Failed, Source};
+use ot_logic::Memory;
 use std::alloc::Global;
 
 /// Why the front of a source isn't read.
@@ -10,7 +11,7 @@ use std::alloc::Global;
 pub enum ReadFault {
     /// The source failed.
     Failed,
-    Memory,
+    Memory(Memory),
 }
 
 /// The bytes that a source has left, or its first ones where it has more than `max_bytes`: one more
@@ -40,9 +41,9 @@ pub fn read_front<S: Source>(
         match source.read(&mut buffer[..want]) {
             Ok(0) => break,
             Ok(count) => {
-                let Ok(()) = bytes.extend_from_slice(&buffer[..count]) else {
-                    return Err(ReadFault::Memory);
-                };
+                if let Err(refused) = bytes.extend_from_slice(&buffer[..count]) {
+                    return Err(ReadFault::Memory(Memory::from(refused)));
+                }
             }
             Err(Failed) => return Err(ReadFault::Failed),
         }

@@ -21,7 +21,7 @@ use Rattle.ot_kernel.specs.declared.theorem.Theorem.{Theorem}
 use Rattle.ot_kernel.specs.declared.fault.RuleFault.{RuleFault}
 use Rattle.ot_kernel.specs.Answers.{RefusesRule}
 use Rattle.ot_kernel.specs.Numbered.{tm_at, Derives}
-use Rattle.ot_kernel.specs.Equating.{limited, equation_rule, Makes}
+use Rattle.ot_kernel.specs.Equating.{limited, equation_rule, IsMadeTerm}
 use Rattle.ot_kernel.specs.Opening.{beta_over}
 use Rattle.ot_kernel.proofs.NewTerms.{new_at}
 use Rattle.ot_kernel.proofs.EquationRules.{equation_rule-at, within-refused}
@@ -94,7 +94,7 @@ module _ (t : TermTable) (key : VarKey) (p : ℕ) (below : key.ty < length t.typ
         (right_part_refused e (App equals redex) holds (same_refusal e _ _ holds_rule r))
 
     module _ (n : TermTable) (second : Grows m n) (h : ℕ)
-        (made_h : Makes (Ok h) (app_rule numbers (tm_at m.terms p) (tm_at m.terms x)) n.terms) where
+        (made_h : IsMadeTerm (Ok h) (app_rule numbers (tm_at m.terms p) (tm_at m.terms x)) n.terms) where
       holds_is : tm_at n.terms h ≡ holds
       holds_is =
           sym (limit-ok (is_shallow numbers holds) Nesting holds (tm_at n.terms h) (sym holds_rule ∙ made_h.1)).1
@@ -113,7 +113,7 @@ module _ (t : TermTable) (key : VarKey) (p : ℕ) (below : key.ty < length t.typ
           (left_part_refused e function (Free var) (same_refusal e _ _ function_rule r))))
 
       module _ (o : TermTable) (third : Grows n o) (f : ℕ)
-          (made_f : Makes (Ok f) (abs_rule numbers (variable_of n.types key) (tm_at n.terms h)) o.terms) where
+          (made_f : IsMadeTerm (Ok f) (abs_rule numbers (variable_of n.types key) (tm_at n.terms h)) o.terms) where
         f_is : tm_at o.terms f ≡ function
         f_is = sym (limit-ok (is_shallow numbers function) Nesting function (tm_at o.terms f)
             (sym function_rule ∙ made_f.1)).1
@@ -141,7 +141,7 @@ module _ (t : TermTable) (key : VarKey) (p : ℕ) (below : key.ty < length t.typ
             (right_part_refused e equals redex (same_refusal e _ _ redex_rule r)))
 
         module _ (q : TermTable) (fourth : Grows o q) (r : ℕ)
-            (made_r : Makes (Ok r) (app_rule numbers (tm_at o.terms f) (tm_at o.terms x)) q.terms) where
+            (made_r : IsMadeTerm (Ok r) (app_rule numbers (tm_at o.terms f) (tm_at o.terms x)) q.terms) where
           r_is : tm_at q.terms r ≡ redex
           r_is = sym
               (limit-ok (is_shallow numbers redex) Nesting redex (tm_at q.terms r) (sym redex_rule ∙ made_r.1)).1
@@ -161,7 +161,7 @@ module _ (t : TermTable) (key : VarKey) (p : ℕ) (below : key.ty < length t.typ
           beta_refused e k = within-refused numbers e [] whole (same_refusal e _ _ whole_rule k)
 
           pub beta_derived : (u : TermTable) → IsTermTable q → Grows q u → (th : Theorem) → th.hyps ≡ []
-              → Makes (Ok th.concl) (equation_rule numbers (tm_at q.terms r) (tm_at q.terms h)) u.terms
+              → IsMadeTerm (Ok th.concl) (equation_rule numbers (tm_at q.terms r) (tm_at q.terms h)) u.terms
               → Derives (Ok th) stated u.terms
           beta_derived u table grows th none made =
               no_hyps_derive q u table grows th whole none (made.0, sym whole_rule ∙ made.1)

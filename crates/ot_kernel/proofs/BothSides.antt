@@ -14,7 +14,7 @@ use Rattle.ot_kernel.specs.declared.theorem.Theorem.{Theorem}
 use Rattle.ot_kernel.specs.declared.fault.RuleFault.{RuleFault}
 use Rattle.ot_kernel.specs.Answers.{RefusesRule}
 use Rattle.ot_kernel.specs.Numbered.{tm_at, numbered_sequent}
-use Rattle.ot_kernel.specs.Equating.{Makes, AreSides}
+use Rattle.ot_kernel.specs.Equating.{IsMadeTerm, AreSides}
 use Rattle.ot_kernel.proofs.EquationRules.{app_thm-right, IsApplications, app_thm-is}
 use Rattle.ot_kernel.proofs.EquationRules.{abs_thm-right, IsAbstractions, abs_thm-parts}
 use Rattle.ot_kernel.proofs.Equating.{tm_at-Grows}
@@ -22,7 +22,7 @@ use Rattle.ot_kernel.proofs.Equating.{tm_at-Grows}
 -- ---- from two equations
 module _ (t u : TermTable) (lower top : Theorem) (ty uy : Ty ℕ) (f g x y left : ℕ)
     (p : AreSides t.terms lower.concl ty f g) (q : AreSides t.terms top.concl uy x y) (first : Grows t u)
-    (made : Makes (Ok left) (app_rule numbers (tm_at t.terms f) (tm_at t.terms x)) u.terms) where
+    (made : IsMadeTerm (Ok left) (app_rule numbers (tm_at t.terms f) (tm_at t.terms x)) u.terms) where
   -- the right sides stand for what they stood for
   same_right : app_rule numbers (tm_at u.terms g) (tm_at u.terms y) ≡ app_rule numbers (tm_at t.terms g)
       (tm_at t.terms y)
@@ -41,7 +41,7 @@ module _ (t u : TermTable) (lower top : Theorem) (ty uy : Ty ℕ) (f g x y left 
       (subst (λ (z : Result (Tm ℕ) (Fault ℕ)). RefusesRule e z) same_right r)
 
   pub both_applications : (w : TermTable) (right : ℕ) → Grows u w
-      → Makes (Ok right) (app_rule numbers (tm_at u.terms g) (tm_at u.terms y)) w.terms → (b : Ty ℕ)
+      → IsMadeTerm (Ok right) (app_rule numbers (tm_at u.terms g) (tm_at u.terms y)) w.terms → (b : Ty ℕ)
       × IsApplications numbers tells_numbers (numbered_sequent t.terms lower) (numbered_sequent t.terms top) ty uy
       (tm_at t.terms f) (tm_at t.terms g) (tm_at t.terms x) (tm_at t.terms y) p.sides q.sides b
       (tm_at w.terms left) (tm_at w.terms right)
@@ -57,7 +57,7 @@ module _ (t u : TermTable) (lower top : Theorem) (ty uy : Ty ℕ) (f g x y left 
 module _ (t u : TermTable) (key : VarKey) (th : Theorem) (ty : Ty ℕ) (a b left : ℕ) (below : key.ty < length t.types)
     (p : AreSides t.terms th.concl ty a b) (not_free : is_free_in_some numbers (variable_of t.types key)
     (numbered_sequent t.terms th).hyps ≡ false) (first : Grows t u)
-    (made : Makes (Ok left) (abs_rule numbers (variable_of t.types key) (tm_at t.terms a)) u.terms) where
+    (made : IsMadeTerm (Ok left) (abs_rule numbers (variable_of t.types key) (tm_at t.terms a)) u.terms) where
   -- the variable and the right side stand for what they stood for
   same_abstraction : abs_rule numbers (variable_of u.types key) (tm_at u.terms b)
       ≡ abs_rule numbers (variable_of t.types key) (tm_at t.terms b)
@@ -75,7 +75,7 @@ module _ (t u : TermTable) (key : VarKey) (th : Theorem) (ty : Ty ℕ) (a b left
       (subst (λ (z : Result (Tm ℕ) (Fault ℕ)). RefusesRule e z) same_abstraction r)
 
   pub both_abstractions : (w : TermTable) (right : ℕ) → Grows u w
-      → Makes (Ok right) (abs_rule numbers (variable_of u.types key) (tm_at u.terms b)) w.terms
+      → IsMadeTerm (Ok right) (abs_rule numbers (variable_of u.types key) (tm_at u.terms b)) w.terms
       → IsAbstractions numbers tells_numbers (variable_of t.types key) (numbered_sequent t.terms th) ty
       (tm_at t.terms a) (tm_at t.terms b) p.sides not_free (tm_at w.terms left) (tm_at w.terms right)
   both_abstractions w right second made_right =

@@ -12,6 +12,7 @@ use Rattle.ot_logic.specs.Renamed.{map_symbol}
 use Rattle.ot_logic.specs.Answers.{◌>>=◌}
 use Rattle.ot_logic.proofs.Line.{over_name, over_list}
 use Rattle.ot_logic.proofs.Naming.{naming}
+use Rattle.ot_logic.specs.RanOut.{ran_out}
 use Rattle.ot_term.specs.Term.{TermTable}
 use Rattle.ot_term.specs.Symbols.{symbol_of, symbol_named}
 use Rattle.ot_term.specs.declared.term.SymbolKind.{SymbolKind}
@@ -49,7 +50,7 @@ same_fault (definitions.AlreadyDefined c) = ap (λ s. Some (AlreadyDefined s)) (
 same_fault (definitions.SymbolInUse c) = ap (λ s. Some (SymbolInUse s)) (sym (itself c.kind c.name))
 same_fault definitions.NotClosed = refl
 same_fault definitions.TypeVarEscapes = refl
-same_fault definitions.Memory = refl
+same_fault (definitions.Memory memory) = refl
 
 numbered : (r : Result (Unit {0}) DefineFault) (stated : Result (Unit {0}) (Fault ℕ)) → Checks r stated
     → ChecksBy (λ n. n) r stated
@@ -77,7 +78,7 @@ symbol_below n (definitions.SymbolInUse c) r only h =
     name_below c.kind c.name n (only (SymbolInUse (symbol_of c)) (h (SymbolInUse (symbol_of c)) refl))
 symbol_below n definitions.NotClosed r only h = tt
 symbol_below n definitions.TypeVarEscapes r only h = tt
-symbol_below n definitions.Memory r only h = tt
+symbol_below n (definitions.Memory memory) r only h = tt
 
 -- ---- a refusal that is the stated one whatever numbers stand for names no symbol
 -- the number of the symbol that a stated fault names
@@ -106,7 +107,7 @@ none_named n (definitions.SymbolInUse c) r h =
     absurd (apart c.kind c.name (ap number_in (sym ((h (λ _. 0)).1 _ refl) ∙ (h (λ _. 1)).1 _ refl)))
 none_named n definitions.NotClosed r h = tt
 none_named n definitions.TypeVarEscapes r h = tt
-none_named n definitions.Memory r h = tt
+none_named n (definitions.Memory memory) r h = tt
 
 pub names_no_symbol : {A : Type 0} (n : ℕ) (e : RuleFault) (r : Result A (Fault ℕ)) → RefusesRule e r → IsSymbolIn n e
 names_no_symbol n rules.NotBool r h = tt
@@ -118,10 +119,10 @@ names_no_symbol n rules.VarFreeInHyps r h = tt
 names_no_symbol n rules.NotRedex r h = tt
 names_no_symbol n rules.Nesting r h = tt
 names_no_symbol n (rules.Define e) r h = none_named n e r h
-names_no_symbol n rules.Memory r h = tt
+names_no_symbol n (rules.Memory memory) r h = tt
 
 -- running out of memory is answered as the rule's own
-never_memory : (e : DefineFault) → of_define e ≢ rules.Define definitions.Memory
+never_memory : (e : DefineFault) → of_define e ≢ rules.Define (definitions.Memory ran_out)
 never_memory definitions.BadDefinitionList q = cc
 never_memory definitions.HypothesesPresent q = cc
 never_memory definitions.NotApplication q = cc
@@ -131,7 +132,7 @@ never_memory (definitions.AlreadyDefined c) q = cc
 never_memory (definitions.SymbolInUse c) q = cc
 never_memory definitions.NotClosed q = cc
 never_memory definitions.TypeVarEscapes q = cc
-never_memory definitions.Memory q = cc
+never_memory (definitions.Memory memory) q = cc
 
 -- a rule hands the refusal on
 handed : {N : Type 0} (read : ℕ → N) (e : DefineFault) → rule_fault read (of_define e) ≡ definition_fault read e
@@ -144,7 +145,7 @@ handed read (definitions.AlreadyDefined c) = refl
 handed read (definitions.SymbolInUse c) = refl
 handed read definitions.NotClosed = refl
 handed read definitions.TypeVarEscapes = refl
-handed read definitions.Memory = refl
+handed read (definitions.Memory memory) = refl
 
 module _ {ns : List Name} {t : TermTable} {held : Held} {now : State} (l : Later ns ns t t held now now) where
   -- the symbols over the line of alphabets
@@ -187,7 +188,7 @@ module _ {ns : List Name} {t : TermTable} {held : Held} {now : State} (l : Later
       ap (λ s. Some (SymbolInUse s)) (symbol_real (symbol_of c) (h (SymbolInUse (symbol_of c)) refl))
   real_fault definitions.NotClosed h = refl
   real_fault definitions.TypeVarEscapes h = refl
-  real_fault definitions.Memory h = refl
+  real_fault (definitions.Memory memory) h = refl
 
   module _ (D : (L : Type 0) → Alphabet L → Type 0) (check : (L : Type 0) (c : Alphabet L) → List (Symbol L)
       → List (Symbol L) → D L c → Result (Unit {0}) (Fault L)) (ds us : List (Symbol ℕ)) (x : D ℕ numbers)

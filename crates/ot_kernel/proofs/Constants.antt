@@ -21,6 +21,7 @@ use Rattle.ot_logic.specs.Answers.{◌>>=◌, unless}
 use Rattle.ot_logic.proofs.Line.{over_name}
 use Rattle.ot_logic.proofs.Naming.{naming}
 use Rattle.ot_logic.proofs.TableLemmas.{Extends-trans, Extends-append, get_or-Extends}
+use Rattle.ot_logic.specs.RanOut.{ran_out}
 use Rattle.ot_laws.proofs.Steps.{within_limit-ok}
 use Rattle.ot_laws.proofs.Tests.{tells_names}
 use Rattle.ot_term.specs.Term.{TermTable}
@@ -221,7 +222,7 @@ module _ {ns ms : List Name} {t u : TermTable} {held : Held} {now mid : State} (
 
   pub defines : (stated : Result (Definition Name) (Fault Name)) (r : Result ℕ RuleFault) (new : State)
       → stated ≡ Ok d → IfOk r (λ id. (id ≡ length mid.theorems) × (new ≡ defining mid e))
-      → IfErr r (λ f. (new ≡ mid) × (f ≡ Memory)) → Defines r stated now new × Keeps now new
+      → IfErr r (λ f. (new ≡ mid) × (f ≡ Memory ran_out)) → Defines r stated now new × Keeps now new
   defines stated (Ok id) new s ok err = (
     (
       d,
@@ -234,7 +235,7 @@ module _ {ns ms : List Name} {t u : TermTable} {held : Held} {now mid : State} (
     ),
     accepted_keeps new ok.1,
   )
-  defines stated (Err Memory) new s ok err = (
+  defines stated (Err (Memory memory)) new s ok err = (
     (subst (SameTheorems now) (sym err.0) l.same, memory_refuses stated (name_at new)),
     subst (Keeps now)
         (sym err.0) l.keeps,
@@ -324,7 +325,7 @@ module _ {ns : List Name} {t u : TermTable} {held : Held} {now mid : State} (l :
 
   pub constant_defines : (r : Result ℕ RuleFault) (new : State) → stated ≡ Ok (ConDef (name_at now n) (term_at now i))
       → IfOk r (λ id. (id ≡ length mid.theorems) × (new ≡ defining mid (ConDef (name_at mid n) (term_at mid i))))
-      → IfErr r (λ e. (new ≡ mid) × (e ≡ Memory))
+      → IfErr r (λ e. (new ≡ mid) × (e ≡ Memory ran_out))
       → Defines r stated now new × Keeps now new
   constant_defines r new s ok err = defines l (ConDef (name_at now n) (term_at now i))
       (ConDef (name_at mid n) (term_at mid i)) same_constant stated r new s ok err

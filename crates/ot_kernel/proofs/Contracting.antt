@@ -24,7 +24,7 @@ use Rattle.ot_kernel.specs.declared.theorem.Theorem.{Theorem}
 use Rattle.ot_kernel.specs.declared.fault.RuleFault.{RuleFault}
 use Rattle.ot_kernel.specs.declared.fault.RuleFault.TheVariants as rules
 use Rattle.ot_kernel.specs.Answers.{RefusesRule}
-use Rattle.ot_kernel.specs.Equating.{equation_rule, Makes}
+use Rattle.ot_kernel.specs.Equating.{equation_rule, IsMadeTerm}
 use Rattle.ot_kernel.specs.Numbered.{tm_at, tms_at, Derives}
 use Rattle.ot_kernel.specs.Refusals.{of_subst}
 use Rattle.ot_kernel.proofs.EquationRules.{refuses_rule, memory_refuses}
@@ -93,7 +93,7 @@ beta_refused x faults.Nesting none deep =
     (deep-right (App
     (Con numbers.equals
     (fun_ty numbers (type_of numbers x) (fun_ty numbers (type_of numbers x) (bool_ty numbers)))) x) y q))
-beta_refused x faults.Memory none deep = memory_refuses _
+beta_refused x (faults.Memory memory) none deep = memory_refuses _
 
 -- ---- the equation over the table, which has what beta made
 module _ (t u : TermTable) (g : Grows t u) (table : IsTermTable u) (i : ℕ) (h : i < length t.terms) (id : ℕ)
@@ -124,7 +124,7 @@ module _ (t u : TermTable) (g : Grows t u) (table : IsTermTable u) (i : ℕ) (h 
       typed ∙ sym (same_type (tm_at u.terms i) (tm_at u.terms id) ty (ap contracted same_redex ∙ reduced) typed)
 
   pub redex_equated : (v : TermTable) → Grows u v → (new : Theorem) → new.hyps ≡ []
-      → Makes (Ok new.concl) (equation_rule numbers (tm_at u.terms i) (tm_at u.terms id)) v.terms
+      → IsMadeTerm (Ok new.concl) (equation_rule numbers (tm_at u.terms i) (tm_at u.terms id)) v.terms
       → Derives (Ok new) (beta_conv_rule numbers (tm_at t.terms i)) v.terms
   redex_equated v grows new none made =
       let (ty, typed) = typed_redex in

@@ -15,7 +15,7 @@ use Rattle.ot_kernel.specs.declared.theorem.Theorem.{Theorem}
 use Rattle.ot_kernel.specs.declared.fault.RuleFault.{RuleFault}
 use Rattle.ot_kernel.specs.Answers.{RefusesRule}
 use Rattle.ot_kernel.specs.Numbered.{tm_at, Derives}
-use Rattle.ot_kernel.specs.Equating.{limited, Makes}
+use Rattle.ot_kernel.specs.Equating.{limited, IsMadeTerm}
 use Rattle.ot_kernel.specs.Opening.{beta_over}
 use Rattle.ot_kernel.specs.Proved.{IsNumberOf, equal_functions, trip, TurnsBack}
 use Rattle.ot_kernel.proofs.Equating.{tm_at-Grows}
@@ -68,8 +68,8 @@ module _ {t m : TermTable} (first : Grows t m) {T : Ty ℕ} {ty : ℕ} (u abs re
         λ i. Con rep (fun_ty numbers (new i) (old i))
 
     pub conversions_made : (to from : ℕ) {o : TermTable} → Grows n o
-        → Makes (Ok to) (limited numbers (Con abs (fun_ty numbers (type_at m.types u) (type_at m.types ty)))) n.terms
-        → Makes (Ok from) (limited numbers (Con rep (fun_ty numbers (type_at n.types ty) (type_at n.types u))))
+        → IsMadeTerm (Ok to) (limited numbers (Con abs (fun_ty numbers (type_at m.types u) (type_at m.types ty)))) n.terms
+        → IsMadeTerm (Ok from) (limited numbers (Con rep (fun_ty numbers (type_at n.types ty) (type_at n.types u))))
         o.terms → AreConversions T U abs rep o ty u to from
     conversions_made to from {o} third made made_from =
         let later = Grows-trans second third in

@@ -26,7 +26,7 @@ use Rattle.ot_kernel.specs.Spelled.{Held, sequent_of, IsInside}
 use Rattle.ot_kernel.specs.Pairs.{type_pairs, term_pairs, IsSubstIn}
 use Rattle.ot_kernel.specs.Numbered.{tm_at, numbered_sequent, Derives}
 use Rattle.ot_kernel.specs.Answers.{RefusesRule}
-use Rattle.ot_kernel.specs.Derived.{Follows, Adds}
+use Rattle.ot_kernel.specs.Derived.{Follows, AddsTheorem}
 use Rattle.ot_kernel.proofs.Theorems.{real_sequent, Concluded, concluded}
 use Rattle.ot_kernel.proofs.Later.{Later, IsHeld, Between, alphabet_at, over-term, over-variable}
 use Rattle.ot_kernel.proofs.Later.{over-theorem, over-type_pairs, over-term_pairs, types_within}
@@ -60,7 +60,7 @@ ruled-follows {now = now} {mid = mid} (Ok th) d = record {
 ruled-follows (Err e) d = tt
 
 pub ruled-concluded : {stated : Result (Sequent Name) (Fault Name)} {now mid : State} (r : Result Theorem RuleFault)
-    (result : Result ℕ RuleFault) (new : State) → Ruled r stated now mid → Adds result r mid new
+    (result : Result ℕ RuleFault) (new : State) → Ruled r stated now mid → AddsTheorem result r mid new
     → Concluded result stated now new
 ruled-concluded {stated} {now} {mid} (Ok th) (Ok id) new d a =
     concluded (Ok id) stated now mid new (sequent_of mid.terms th) d.keeps d.same d.made.1 a tt

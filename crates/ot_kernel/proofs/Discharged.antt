@@ -11,7 +11,7 @@ use Rattle.ot_term.specs.TermTable.{Grows, IsTermTable}
 use Rattle.ot_kernel.specs.declared.theorem.Theorem.{Theorem}
 use Rattle.ot_kernel.specs.declared.fault.RuleFault.{RuleFault}
 use Rattle.ot_kernel.specs.Answers.{RefusesRule}
-use Rattle.ot_kernel.specs.Equating.{equation_rule, Makes}
+use Rattle.ot_kernel.specs.Equating.{equation_rule, IsMadeTerm}
 use Rattle.ot_kernel.specs.Numbered.{tm_at, tms_at, numbered_sequent, Derives}
 use Rattle.ot_kernel.proofs.Equating.{equated_derives, equated_refused}
 
@@ -27,7 +27,7 @@ module _ (t : TermTable) (lower top : Theorem)
       → tms_at t.terms rs ≡ minus numbers (tm_at t.terms lower.concl) (tms_at t.terms top.hyps)
       → tms_at t.terms th.hyps ≡ union numbers (tms_at t.terms ls) (tms_at t.terms rs)
       → All (λ i. i < length t.terms) th.hyps
-      → Makes (Ok th.concl) (equation_rule numbers (tm_at t.terms lower.concl) (tm_at t.terms top.concl)) u.terms
+      → IsMadeTerm (Ok th.concl) (equation_rule numbers (tm_at t.terms lower.concl) (tm_at t.terms top.concl)) u.terms
       → Derives (Ok th) (deduct_antisym_rule numbers (numbered_sequent t.terms lower) (numbered_sequent t.terms top))
       u.terms
   deduced u table grows ls rs th left right both inside made =

@@ -22,7 +22,7 @@ use Rattle.ot_kernel.specs.declared.theorem.Theorem.{Theorem}
 use Rattle.ot_kernel.specs.declared.fault.RuleFault.{RuleFault}
 use Rattle.ot_kernel.specs.Answers.{RefusesRule}
 use Rattle.ot_kernel.specs.Numbered.{tm_at, tms_at, numbered_sequent, Derives, IsGrownBy, IsGrown}
-use Rattle.ot_kernel.specs.Equating.{limited, equation_rule, Makes, AreSides, AreOuter}
+use Rattle.ot_kernel.specs.Equating.{limited, equation_rule, IsMadeTerm, AreSides, AreOuter}
 use Rattle.ot_kernel.proofs.EquationRules.{within-made, within-refused, limited-never}
 use Rattle.ot_kernel.proofs.EquationRules.{equation_rule-at, trans-inner, trans-ends}
 use Rattle.ot_kernel.proofs.EquationLimits.{shallow-outer}
@@ -109,7 +109,7 @@ grown_then n s t u g h = grown_further _ _ _ s t u g (omega arith) h (omega arit
 -- ---- a theorem whose conclusion is made over the table, under hypotheses that were there
 pub derives_within : (t u : TermTable) → IsTermTable t → Grows t u
     → (th : Theorem) (p : Tm ℕ) (stated : Result (Sequent ℕ) (Fault ℕ)) → All (λ i. i < length t.terms) th.hyps
-    → Makes (Ok th.concl) (limited numbers p) u.terms
+    → IsMadeTerm (Ok th.concl) (limited numbers p) u.terms
     → stated ≡ within_limit numbers (record { hyps = tms_at t.terms th.hyps; concl = p })
     → Derives (Ok th) stated u.terms
 derives_within t u table g th p stated inside made rule =
@@ -136,11 +136,11 @@ at_type a b ty h P p = subst P (equation_rule-at numbers a b ty h) p
 pub equated_derives : (t u : TermTable) → IsTermTable t → Grows t u
     → (th : Theorem) (g : List (Tm ℕ)) (a b : Tm ℕ) (ty : Ty ℕ) (stated : Result (Sequent ℕ) (Fault ℕ))
     → All (λ i. i < length t.terms) th.hyps → tms_at t.terms th.hyps ≡ g → HasType numbers a ty
-    → Makes (Ok th.concl) (equation_rule numbers a b) u.terms → stated
+    → IsMadeTerm (Ok th.concl) (equation_rule numbers a b) u.terms → stated
     ≡ within_limit numbers (record { hyps = g; concl = equation numbers ty a b }) → Derives (Ok th) stated u.terms
 equated_derives t u table g th hs a b ty stated inside same typed made rule =
     derives_within t u table g th (equation numbers ty a b) stated inside
-    (at_type a b ty typed (λ r. Makes (Ok th.concl) r u.terms) made)
+    (at_type a b ty typed (λ r. IsMadeTerm (Ok th.concl) r u.terms) made)
     (rule ∙ (λ i. within_limit numbers (record { hyps = sym same i; concl = equation numbers ty a b })))
 
 pub equated_refused : (e : RuleFault) (g : List (Tm ℕ)) (a b : Tm ℕ) (ty : Ty ℕ)
@@ -205,7 +205,7 @@ module _ (t : TermTable) (lower top : Sequent ℕ) (ty : Ty ℕ) (a b : ℕ) (o 
 
   pub outer_derives : (u : TermTable) → IsTermTable t → Grows t u → (th : Theorem)
       → All (λ i. i < length t.terms) th.hyps → tms_at t.terms th.hyps ≡ union numbers lower.hyps top.hyps
-      → Makes (Ok th.concl) (equation_rule numbers (tm_at t.terms a) (tm_at t.terms b)) u.terms
+      → IsMadeTerm (Ok th.concl) (equation_rule numbers (tm_at t.terms a) (tm_at t.terms b)) u.terms
       → Derives (Ok th) (trans_rule numbers lower top) u.terms
   outer_derives u table g th inside same made =
       let p = equation numbers ty (tm_at t.terms a) (tm_at t.terms b) in

@@ -10,6 +10,7 @@ use Rattle.ot_logic.specs.Hol.{same_tm, equation, as_equation, union, is_free_in
 use Rattle.ot_logic.specs.Faults.{Fault, NotFunction, ArgumentType, NotAlphaEqual, Nesting}
 use Rattle.ot_logic.specs.Rules.{has_type, within_limit, app_rule, abs_rule, eq_mp_rule}
 use Rattle.ot_logic.specs.Rules.{abs_thm_rule, app_thm_rule, sym_rule, trans_rule}
+use Rattle.ot_logic.specs.RanOut.{ran_out}
 use Rattle.ot_laws.proofs.Tests.{Tells, cases_of, same_ty-is, has_type-is}
 use Rattle.ot_laws.proofs.Typing.{as_fun_ty-some, as_fun_ty-fun, type_of-is, app-typed, type-close_at}
 use Rattle.ot_laws.proofs.Steps.{limit-ok, app_rule-ok}
@@ -29,7 +30,7 @@ refuses_rule {N = N} e f stated p s read = (
 )
 
 -- running out of memory may be answered at any point
-pub memory_refuses : {X N : Type 0} (stated : Result X (Fault N)) → RefusesRule rules.Memory stated
+pub memory_refuses : {X N : Type 0} (stated : Result X (Fault N)) → RefusesRule (rules.Memory ran_out) stated
 memory_refuses stated read = (λ q. cc, λ f p. cc)
 
 -- two rules with one refusal

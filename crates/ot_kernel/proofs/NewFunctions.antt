@@ -24,7 +24,7 @@ use Rattle.ot_kernel.specs.declared.theorem.Theorem.{Theorem}
 use Rattle.ot_kernel.specs.declared.fault.RuleFault.{RuleFault}
 use Rattle.ot_kernel.specs.Answers.{RefusesRule}
 use Rattle.ot_kernel.specs.Numbered.{tm_at, tms_at, Derives}
-use Rattle.ot_kernel.specs.Equating.{limited, equation_rule, Makes}
+use Rattle.ot_kernel.specs.Equating.{limited, equation_rule, IsMadeTerm}
 use Rattle.ot_kernel.specs.Proved.{equal_functions}
 use Rattle.ot_kernel.proofs.NewTerms.{new_at}
 use Rattle.ot_kernel.proofs.EquationRules.{limited-refused, within-refused, abs_thm-is, abs_thm-left}
@@ -90,7 +90,7 @@ app_rule-is alphabet tells f x a b p q =
 -- ---- a theorem without hypotheses
 pub bare_derives : (t u : TermTable) → IsTermTable t → Grows t u → (th : Theorem) (a b : Tm ℕ) (ty : Ty ℕ)
     (stated : Result (Sequent ℕ) (Fault ℕ)) → th.hyps ≡ [] → HasType numbers a ty
-    → Makes (Ok th.concl) (equation_rule numbers a b) u.terms → stated
+    → IsMadeTerm (Ok th.concl) (equation_rule numbers a b) u.terms → stated
     ≡ within_limit numbers (sequent_of numbers (equation numbers ty a b)) → Derives (Ok th) stated u.terms
 bare_derives t u table g th a b ty stated none typed made rule =
     equated_derives t u table g th [] a b ty stated
@@ -173,8 +173,8 @@ module _ (t : TermTable) (table : IsTermTable t) (key : VarKey) (a b : ℕ) (bel
         (subst (λ (z : Result (Tm ℕ) (Fault ℕ)). RefusesRule e z) same_right r))
 
     module _ (w : TermTable) (second : Grows u w) (left right : ℕ)
-        (made : Makes (Ok left) (abs_rule numbers var (tm_at t.terms a)) u.terms)
-        (made_right : Makes (Ok right) (abs_rule numbers (variable_of u.types key) (tm_at u.terms b)) w.terms) where
+        (made : IsMadeTerm (Ok left) (abs_rule numbers var (tm_at t.terms a)) u.terms)
+        (made_right : IsMadeTerm (Ok right) (abs_rule numbers (variable_of u.types key) (tm_at u.terms b)) w.terms) where
       functions : IsAbstractions numbers tells_numbers var bodies ty (tm_at t.terms a) (tm_at t.terms b) sides refl
           (tm_at w.terms left) (tm_at w.terms right)
       functions =
@@ -193,7 +193,7 @@ module _ (t : TermTable) (table : IsTermTable t) (key : VarKey) (a b : ℕ) (bel
           (fun_ty numbers var.ty ty) stated functions.left r (sym is_rule ∙ functions.rule)
 
       pub functions_derived : (x : TermTable) → IsTermTable w → Grows w x → (th : Theorem) → th.hyps ≡ []
-          → Makes (Ok th.concl) (equation_rule numbers (tm_at w.terms left) (tm_at w.terms right)) x.terms
+          → IsMadeTerm (Ok th.concl) (equation_rule numbers (tm_at w.terms left) (tm_at w.terms right)) x.terms
           → Derives (Ok th) stated x.terms
       functions_derived x within third th none made_last =
           bare_derives w x within third th (tm_at w.terms left) (tm_at w.terms right) (fun_ty numbers var.ty ty)

@@ -18,7 +18,7 @@ use Rattle.ot_term.specs.Equality.{named_equation}
 use Rattle.ot_kernel.specs.declared.fault.RuleFault.TheVariants as rules
 use Rattle.ot_kernel.specs.Answers.{RefusesRule}
 use Rattle.ot_kernel.specs.Refusals.{of_term}
-use Rattle.ot_kernel.specs.Equating.{limited, equation_rule, Makes}
+use Rattle.ot_kernel.specs.Equating.{limited, equation_rule, IsMadeTerm}
 use Rattle.ot_kernel.proofs.TermRules.{app-made, app-not_function, app-argument_type}
 use Rattle.ot_kernel.proofs.TermRules.{app-nesting, abs-made}
 use Rattle.ot_kernel.proofs.EquationRules.{refuses_rule, memory_refuses, equation_rule-at}
@@ -41,7 +41,7 @@ limited-past t h = rw h refl
 -- ---- equations
 pub makes_equation : (u : TermTable) (a b : Named ℕ) (ty : Ty ℕ) (id : ℕ) → IsTermTable u
     → named_type numbers a ≡ Some ty → slice_get u.terms id ≡ Some (named_equation ty a b)
-    → Makes (Ok id) (equation_rule numbers (nameless numbers a) (nameless numbers b)) u.terms
+    → IsMadeTerm (Ok id) (equation_rule numbers (nameless numbers a) (nameless numbers b)) u.terms
 makes_equation u a b ty id table typed made =
     let (below, is) = new_at u id (named_equation ty a b) made in (
       below,
@@ -65,11 +65,11 @@ equation_refused a b of_terms.Nesting same function argument nesting =
     refuses_rule rules.Nesting Nesting _ (λ _. refl)
     (equation_rule-at numbers (nameless numbers a) (nameless numbers b) ty (has a ty p)
     ∙ limited-past (nameless numbers (named_equation ty a b)) past)
-equation_refused a b of_terms.Memory same function argument nesting = memory_refuses _
+equation_refused a b (of_terms.Memory memory) same function argument nesting = memory_refuses _
 
 -- ---- applications
 pub makes_application : (u : TermTable) (f x : Named ℕ) (id : ℕ) → IsTermTable u → slice_get u.terms id
-    ≡ Some (NApp f x) → Makes (Ok id) (app_rule numbers (nameless numbers f) (nameless numbers x)) u.terms
+    ≡ Some (NApp f x) → IsMadeTerm (Ok id) (app_rule numbers (nameless numbers f) (nameless numbers x)) u.terms
 makes_application u f x id table made =
     let (below, is) = new_at u id (NApp f x) made in
     let (ty, typed) = table.typed id (NApp f x) made in (
@@ -93,11 +93,11 @@ application_refused f x of_terms.ArgumentType function argument nesting =
 application_refused f x of_terms.Nesting function argument nesting =
     let (b, p, q) = nesting refl in
     refuses_rule rules.Nesting Nesting _ (λ _. refl) (app-nesting numbers tells_numbers f x b p q)
-application_refused f x of_terms.Memory function argument nesting = memory_refuses _
+application_refused f x (of_terms.Memory memory) function argument nesting = memory_refuses _
 
 -- ---- abstractions
 pub makes_abstraction : (u : TermTable) (v : Variable ℕ) (b : Named ℕ) (id : ℕ) → IsTermTable u
-    → slice_get u.terms id ≡ Some (NAbs v b) → Makes (Ok id) (abs_rule numbers v (nameless numbers b)) u.terms
+    → slice_get u.terms id ≡ Some (NAbs v b) → IsMadeTerm (Ok id) (abs_rule numbers v (nameless numbers b)) u.terms
 makes_abstraction u v b id table made =
     let (below, is) = new_at u id (NAbs v b) made in (
       below,

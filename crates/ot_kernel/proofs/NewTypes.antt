@@ -17,6 +17,7 @@ use Rattle.ot_logic.specs.Hol.{sequent_of, tys_of_vars, type_theorems, is_shallo
 use Rattle.ot_logic.specs.NamedTerms.{nameless}
 use Rattle.ot_logic.specs.Naming.{numbers}
 use Rattle.ot_logic.specs.Rules.{within_limit}
+use Rattle.ot_logic.specs.RanOut.{ran_out}
 use Rattle.ot_laws.proofs.Tests.{tells_numbers, same_var-is}
 use Rattle.ot_laws.proofs.Terms.{close_at_fresh}
 use Rattle.ot_laws.proofs.Steps.{within_limit-ok}
@@ -30,7 +31,7 @@ use Rattle.ot_kernel.specs.declared.fault.RuleFault.{RuleFault}
 use Rattle.ot_kernel.specs.Answers.{RefusesRule}
 use Rattle.ot_kernel.specs.Numbered.{numbered_sequent, Derives}
 use Rattle.ot_kernel.specs.Spelled.{IsInside}
-use Rattle.ot_kernel.specs.Equating.{limited, Makes}
+use Rattle.ot_kernel.specs.Equating.{limited, IsMadeTerm}
 use Rattle.ot_kernel.specs.Proved.{bound_of_names, IsNumberOf, equal_functions, trip, DerivesBoth}
 use Rattle.ot_type.specs.declared.fault.TableFault.{TableFault}
 use Rattle.ot_type.specs.declared.fault.TableFault.TheVariants as of_types
@@ -119,9 +120,9 @@ shallow_operator op vars ts e deep =
     omega (arith, deep, same, depth-variables vars)
 
 pub operator_refused : {X : Type 0} (r : Result X RuleFault) (e : TableFault) → IsErrAnd r (λ f. f ≡ of_table e)
-    → (e ≡ of_types.Nesting → ⊥) → IfErr r (λ f. f ≡ rules.Memory)
+    → (e ≡ of_types.Nesting → ⊥) → IfErr r (λ f. f ≡ rules.Memory ran_out)
 operator_refused r of_types.Nesting h never = absurd (never refl)
-operator_refused r of_types.Memory h never = handed_on r rules.Memory (λ f. f ≡ rules.Memory) h refl
+operator_refused r (of_types.Memory memory) h never = handed_on r (rules.Memory ran_out) (λ f. f ≡ rules.Memory ran_out) h refl
 
 pub type_number : (ts : List (Ty ℕ)) (op : ℕ) (vars : List ℕ) (args : Tys ℕ) (id : ℕ) → args ≡ tys_of_vars numbers
     vars → slice_get ts id ≡ Some (TyOp op args) → IsNumberOf ts (TyOp op (tys_of_vars numbers vars)) id
@@ -135,7 +136,7 @@ type_number ts op vars args id e at =
 -- ---- a constant from one type to another
 pub constant_made : (u w : TermTable) (id name ty : ℕ) (tree : Ty ℕ) → slice_get u.types ty ≡ Some tree
     → IsTermTable w → slice_get w.terms id ≡ Some (NConst name (type_at u.types ty))
-    → Makes (Ok id) (limited numbers (Con name tree)) w.terms
+    → IsMadeTerm (Ok id) (limited numbers (Con name tree)) w.terms
 constant_made u w id name ty tree at table made =
     let same = type_is u ty tree at in
     let (below, is) = new_at w id (NConst name (type_at u.types ty)) made in (

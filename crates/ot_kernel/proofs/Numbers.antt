@@ -201,7 +201,7 @@ module _ (ns : List Name) (t : TermTable) (held : Held) (now : State) (view : st
   makes_op u (Err of_types.Nesting) n is h g ok nesting table =
       refuses table_fault of_types.Nesting Nesting _ refl (real_op (λ L c m ts. op_rule c m ts ≡ Err Nesting) n is h g
       (op-nesting numbers n (types.types_at t.types is) (nesting refl)))
-  makes_op u (Err of_types.Memory) n is h g ok nesting table = λ f p. cc
+  makes_op u (Err (of_types.Memory memory)) n is h g ok nesting table = λ f p. cc
 
   pub makes_app : (u : TermTable) (r : Result ℕ TermFault) (f x : ℕ) → f < length now.terms → x < length now.terms
       → IfOk r (λ id. slice_get u.terms id ≡ Some (NApp (terms.term_at t.terms f) (terms.term_at t.terms x)))
@@ -242,7 +242,7 @@ module _ (ns : List Name) (t : TermTable) (held : Held) (now : State) (view : st
       refuses term_fault of_terms.Nesting Nesting _ refl
       (real_terms (λ L c y z. app_rule c (nameless c y) (nameless c z) ≡ Err Nesting) f x h g
       (app-nesting numbers tells_numbers (terms.term_at t.terms f) (terms.term_at t.terms x) b p q))
-  makes_app u (Err of_terms.Memory) f x h g ok not_function argument nesting table = λ f p. cc
+  makes_app u (Err (of_terms.Memory memory)) f x h g ok not_function argument nesting table = λ f p. cc
 
   pub makes_abs : (u : TermTable) (r : Result ℕ TableFault) (v : VarKey) (b : ℕ) → v.name < length now.names
       → v.ty < length now.types → b < length now.terms
@@ -266,6 +266,6 @@ module _ (ns : List Name) (t : TermTable) (held : Held) (now : State) (view : st
       refuses table_fault of_types.Nesting Nesting _ refl
       (real_binder (λ L c w y. abs_rule c w (nameless c y) ≡ Err Nesting) v b h g l
       (abs-nesting numbers tells_numbers (terms.variable_of t.types v) (terms.term_at t.terms b) (nesting refl)))
-  makes_abs u (Err of_types.Memory) v b h g l ok nesting table = λ f p. cc
+  makes_abs u (Err (of_types.Memory memory)) v b h g l ok nesting table = λ f p. cc
 
 -- ---- a number that was there before terms grew

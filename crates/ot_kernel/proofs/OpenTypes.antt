@@ -17,6 +17,7 @@ use Rattle.ot_logic.specs.Naming.{names, numbers, first_names}
 use Rattle.ot_logic.specs.Rules.{within_limit}
 use Rattle.ot_logic.specs.Answers.{◌>>=◌, unless}
 use Rattle.ot_logic.proofs.TableLemmas.{get_or-Extends}
+use Rattle.ot_logic.specs.RanOut.{ran_out}
 use Rattle.ot_laws.specs.Theorem.{IsTheorem}
 use Rattle.ot_laws.proofs.Equations.{equation-typed}
 use Rattle.ot_laws.proofs.Steps.{within_limit-ok}
@@ -389,7 +390,7 @@ module _ {ns ms : List Name} {t u : TermTable} {held : Held} {now mid : State} (
       ∙ ap (λ b. unless {E = Fault Name} Nesting b >>= λ _. Ok definition) (shallow_named p h)
 
   -- running out of memory after the theorems were made
-  pub nothing_defined : (e : RuleFault) (new : State) → (new ≡ mid) × (e ≡ Memory)
+  pub nothing_defined : (e : RuleFault) (new : State) → (new ≡ mid) × (e ≡ Memory ran_out)
       → DefinesOpenType (Err e) answer now new × Keeps now new
   nothing_defined e new h = (
     (

@@ -19,6 +19,7 @@ use Rattle.ot_logic.specs.Renamed.{map_symbol}
 use Rattle.ot_logic.specs.Answers.{◌>>=◌, unless}
 use Rattle.ot_logic.proofs.Line.{over_sequent}
 use Rattle.ot_logic.proofs.Naming.{naming}
+use Rattle.ot_logic.specs.RanOut.{ran_out}
 use Rattle.ot_laws.specs.Theorem.{IsTheorem}
 use Rattle.ot_laws.proofs.Definitions.{no_hyps-theorems}
 use Rattle.ot_laws.proofs.Tests.{tells_names}
@@ -397,7 +398,7 @@ module _ {ns ms : List Name} {t u : TermTable} {held : Held} {now mid : State} (
 
   pub operator_defines : (r : Result (ℕ × ℕ) RuleFault) (new : State) → stated ≡ Ok (operator_at now n abs rep vars i)
       → IfOk r (λ ids. (ids.0 ≡ length mid.theorems) × (ids.1 ≡ suc (length mid.theorems))
-      × (new ≡ defining mid (operator_at mid n abs rep vars i))) → IfErr r (λ e. (new ≡ mid) × (e ≡ Memory))
+      × (new ≡ defining mid (operator_at mid n abs rep vars i))) → IfErr r (λ e. (new ≡ mid) × (e ≡ Memory ran_out))
       → DefinesType r stated now new × Keeps now new
   operator_defines (Ok ids) new s ok err =
       let d = operator_at now n abs rep vars i in
@@ -414,7 +415,7 @@ module _ {ns ms : List Name} {t u : TermTable} {held : Held} {now mid : State} (
         ),
         accepted_keeps l d e same_operator new ok.2,
       )
-  operator_defines (Err Memory) new s ok err = (
+  operator_defines (Err (Memory memory)) new s ok err = (
     (subst (SameTheorems now) (sym err.0) l.same, memory_refuses stated (name_at new)),
     subst (Keeps now)
         (sym err.0) l.keeps,

@@ -40,6 +40,7 @@ use Rattle.ot_kernel.proofs.NewTerms.{new_at}
 use Rattle.ot_kernel.proofs.NewTypes.{name-below, bound-below}
 use Rattle.ot_kernel.proofs.Leaves.{shallow-constants}
 use Rattle.ot_logic.proofs.Members.{IsMember-get_or, IsMember-map}
+use Rattle.ot_logic.specs.RanOut.{ran_out}
 
 -- an element is not among those before it, where all have images of their own
 distinct-before : {X Y : Type 0} (f : X → Y) (xs : List X) (k : ℕ) (x : X) → AreDistinct (map f xs) → k < length xs
@@ -188,10 +189,10 @@ module _ (t u : TermTable) (cs : List ℕ) (vars : List VarKey) (g : IsGrownTo (
 
   pub only_memory : (fault : SubstFault)
       → (fault ≡ faults.Nesting → is_shallow numbers (substituted u s (tm_at u.terms concl)) ≡ false)
-      → (fault ≡ faults.NotRedex → ⊥) → of_subst fault ≡ rules.Memory
+      → (fault ≡ faults.NotRedex → ⊥) → of_subst fault ≡ rules.Memory ran_out
   only_memory faults.Nesting deep never = absurd (never_deep (deep refl))
   only_memory faults.NotRedex deep never = absurd (never refl)
-  only_memory faults.Memory deep never = refl
+  only_memory (faults.Memory memory) deep never = refl
 
   pub new_sequent : (v : TermTable) (th : Theorem) → th.hyps ≡ []
       → HasForm v th.concl (substituted u s (tm_at u.terms concl)) → IsInside (length v.terms) th

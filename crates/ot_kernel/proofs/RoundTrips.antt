@@ -22,7 +22,7 @@ use Rattle.ot_term.proofs.Growing.{Grows-trans, variable_of-Grows}
 use Rattle.ot_kernel.specs.declared.fault.RuleFault.{RuleFault}
 use Rattle.ot_kernel.specs.Answers.{RefusesRule}
 use Rattle.ot_kernel.specs.Numbered.{tm_at, tms_at, Derives}
-use Rattle.ot_kernel.specs.Equating.{limited, equation_rule, Makes}
+use Rattle.ot_kernel.specs.Equating.{limited, equation_rule, IsMadeTerm}
 use Rattle.ot_kernel.specs.Proved.{equal_functions, trip, TurnsBack, MakesTrip}
 use Rattle.ot_kernel.proofs.NewTerms.{new_at}
 use Rattle.ot_kernel.proofs.EquationRules.{equation_rule-at, within-refused}
@@ -45,7 +45,7 @@ trip_typed f g v h = app-typed numbers tells_numbers [] g (App f (Free v)) h.oth
 
 -- a theorem without hypotheses whose conclusion was made
 pub no_hyps_derive : (t u : TermTable) → IsTermTable t → Grows t u → (th : Theorem) (p : Tm ℕ) → th.hyps ≡ []
-    → Makes (Ok th.concl) (limited numbers p) u.terms
+    → IsMadeTerm (Ok th.concl) (limited numbers p) u.terms
     → Derives (Ok th) (within_limit numbers (sequent_of numbers p)) u.terms
 no_hyps_derive t u table grows th p none made =
     derives_within t u table grows th p (within_limit numbers (sequent_of numbers p))
@@ -79,7 +79,7 @@ module _ (t : TermTable) (key : VarKey) (f g : ℕ) (hf : f < length t.terms) (h
     there_refused e r = right_part_refused e G (App F (Free var)) (same_refusal e _ _ there_rule r)
 
     module _ (n : TermTable) (second : Grows m n) (there : ℕ)
-        (made : Makes (Ok there) (app_rule numbers (tm_at m.terms f) (tm_at m.terms x)) n.terms) where
+        (made : IsMadeTerm (Ok there) (app_rule numbers (tm_at m.terms f) (tm_at m.terms x)) n.terms) where
       there_is : tm_at n.terms there ≡ App F (Free var)
       there_is =
           let function = tm_at-Grows t m first f hf in
@@ -98,7 +98,7 @@ module _ (t : TermTable) (key : VarKey) (f g : ℕ) (hf : f < length t.terms) (h
       back_refused e r = same_refusal e _ _ back_rule r
 
       pub trip_made : (o : TermTable) → Grows n o → (back : ℕ)
-          → Makes (Ok back) (app_rule numbers (tm_at n.terms g) (tm_at n.terms there)) o.terms
+          → IsMadeTerm (Ok back) (app_rule numbers (tm_at n.terms g) (tm_at n.terms there)) o.terms
           → MakesTrip (Ok (x, back)) F G var o.terms
       trip_made o third back made_back =
           let function = tm_at-Grows t n (Grows-trans first second) g hg in
@@ -153,7 +153,7 @@ module _ (t : TermTable) (key : VarKey) (f g : ℕ) (hf : f < length t.terms) (h
     open_test_refused e r = within-refused numbers e [] test (same_refusal e _ _ test_rule r)
 
     pub open_test_derived : (u : TermTable) → IsTermTable m → Grows m u → (th : Theorem) → th.hyps ≡ []
-        → Makes (Ok th.concl) (equation_rule numbers (tm_at m.terms image) (tm_at m.terms x)) u.terms
+        → IsMadeTerm (Ok th.concl) (equation_rule numbers (tm_at m.terms image) (tm_at m.terms x)) u.terms
         → Derives (Ok th) (within_limit numbers (sequent_of numbers test)) u.terms
     open_test_derived u table grows th none made_concl =
         no_hyps_derive m u table grows th test none (made_concl.0, sym test_rule ∙ made_concl.1)
@@ -177,7 +177,7 @@ module _ (t : TermTable) (key : VarKey) (f g : ℕ) (hf : f < length t.terms) (h
       test_refused e r = limited_test_refused e (same_refusal e _ _ test_rule r)
 
       module _ (n : TermTable) (second : Grows m n) (same : ℕ)
-          (made_same : Makes (Ok same) (equation_rule numbers (tm_at m.terms image) (tm_at m.terms x)) n.terms) where
+          (made_same : IsMadeTerm (Ok same) (equation_rule numbers (tm_at m.terms image) (tm_at m.terms x)) n.terms) where
         same_is : tm_at n.terms same ≡ test
         same_is =
             sym (limit-ok (is_shallow numbers test) Nesting test (tm_at n.terms same) (sym test_rule ∙ made_same.1)).1
@@ -198,7 +198,7 @@ module _ (t : TermTable) (key : VarKey) (f g : ℕ) (hf : f < length t.terms) (h
             (same_refusal e _ _ holds_rule r)
 
         module _ (o : TermTable) (third : Grows n o) (holds : ℕ)
-            (made_holds : Makes (Ok holds) (app_rule numbers (tm_at n.terms p) (tm_at n.terms x)) o.terms) where
+            (made_holds : IsMadeTerm (Ok holds) (app_rule numbers (tm_at n.terms p) (tm_at n.terms x)) o.terms) where
           holds_is : tm_at o.terms holds ≡ holds_tree
           holds_is = applied_is (tm_at n.terms p) (tm_at n.terms x) (tm_at o.terms holds) made_holds.1
               ∙ (λ i. App (predicate_is i) (argument_is i))
@@ -240,7 +240,7 @@ module _ (t : TermTable) (key : VarKey) (f g : ℕ) (hf : f < length t.terms) (h
           open_concl_refused e r = within-refused numbers e [] open_concl (same_refusal e _ _ open_rule r)
 
           pub open_concl_derived : (u : TermTable) → IsTermTable o → Grows o u → (th : Theorem) → th.hyps ≡ []
-              → Makes (Ok th.concl) (equation_rule numbers (tm_at o.terms holds) (tm_at o.terms same)) u.terms
+              → IsMadeTerm (Ok th.concl) (equation_rule numbers (tm_at o.terms holds) (tm_at o.terms same)) u.terms
               → Derives (Ok th) (within_limit numbers (sequent_of numbers open_concl)) u.terms
           open_concl_derived u table grows th none made_concl =
               no_hyps_derive o u table grows th open_concl none (made_concl.0, sym open_rule ∙ made_concl.1)

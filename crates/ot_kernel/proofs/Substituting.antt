@@ -106,7 +106,7 @@ module _ (ns ms : List Name) (t u : TermTable) (s : Substitution) (ids : List �
       (too_deep t s (tms_at t.terms ids) concl (F (tm_at t.terms i)) member
       (ap (is_shallow numbers) (sym same_image) ∙ deep refl))
   image_refused concl faults.NotRedex deep never = absurd (never refl)
-  image_refused concl faults.Memory deep never = memory_refuses _
+  image_refused concl (faults.Memory memory) deep never = memory_refuses _
 
 -- ---- the theorem
 module _ (t u : TermTable) (g : Grows t u) (s : Substitution) (subst_of : IsSubstOf t s) (th : Theorem)
@@ -148,4 +148,4 @@ module _ (t u : TermTable) (g : Grows t u) (s : Substitution) (subst_of : IsSubs
       }) (ap (is_shallow numbers) (sym same_conclusion)
       ∙ deep refl))
   conclusion_refused faults.NotRedex deep never = absurd (never refl)
-  conclusion_refused faults.Memory deep never = memory_refuses _
+  conclusion_refused (faults.Memory memory) deep never = memory_refuses _

@@ -21,6 +21,7 @@ use Rattle.ot_logic.specs.Rules.{has_type}
 use Rattle.ot_logic.proofs.InternedLemmas.{slice_get-last}
 use Rattle.ot_logic.specs.Table.{Extends}
 use Rattle.ot_logic.proofs.TableLemmas.{Extends-refl, Extends-append}
+use Rattle.ot_logic.specs.RanOut.{ran_out}
 use Rattle.ot_term.specs.Term.{TermTable}
 use Rattle.ot_laws.specs.Theorem.{IsTheorem}
 use Rattle.ot_laws.proofs.Grown.{grown-accepted}
@@ -338,7 +339,7 @@ module _ {ns : List Name} {t : TermTable} {held : Held} {mid : State} (l : Later
 -- what an axiom answers
 pub assumes : (result : Result ℕ RuleFault) (stated : Result (Sequent Name) (Fault Name)) (now mid new : State)
     (q : Sequent Name) → SameTheorems now mid → stated ≡ Ok q → IfOk result (λ id. IsSupposed id q mid new)
-    → IfErr result (λ e. (new ≡ mid) × (e ≡ Memory)) → Assumes result stated now new
+    → IfErr result (λ e. (new ≡ mid) × (e ≡ Memory ran_out)) → Assumes result stated now new
 assumes (Ok id) stated now mid new q same s ok err =
     let e = same.basis.assumptions in (
       q,

@@ -16,6 +16,7 @@ use Rattle.ot_logic.proofs.Lift.{map-nameless}
 use Rattle.ot_logic.proofs.Naming.{naming, lettering}
 use Rattle.ot_logic.specs.Table.{Extends}
 use Rattle.ot_logic.proofs.TableLemmas.{Extends-refl, Extends-trans, Extends-append}
+use Rattle.ot_logic.specs.RanOut.{ran_out}
 use Rattle.ot_term.specs.Term.{TermTable}
 use Rattle.ot_term.specs.TermTable as terms
 use Rattle.ot_laws.specs.Theorem.{IsTheorem}
@@ -208,7 +209,7 @@ pub record Concluded (result : Result ℕ RuleFault) (stated : Result (Sequent N
 pub concluded : (result : Result ℕ RuleFault) (stated : Result (Sequent Name) (Fault Name)) (now mid new : State)
     (q : Sequent Name) → Keeps now mid → SameTheorems now mid → stated ≡ Ok q
     → IfOk result (λ id. (new ≡ record mid { theorems = mid.theorems ++ q ∷ [] }) × (id ≡ length mid.theorems))
-    → IfErr result (λ e. (new ≡ mid) × (e ≡ Memory)) → Concluded result stated now new
+    → IfErr result (λ e. (new ≡ mid) × (e ≡ Memory ran_out)) → Concluded result stated now new
 concluded (Ok id) stated now mid new q keeps same s ok err =
     subst (λ n. Concluded (Ok id) stated now n) (sym ok.0) (record {
       concludes = (q, s, ap (λ l. l ++ q ∷ []) same.theorems, ok.1 ∙ ap length same.theorems);
@@ -223,6 +224,6 @@ concluded (Ok id) stated now mid new q keeps same s ok err =
       };
       same = record { assumptions = same.basis.assumptions; definitions = same.basis.definitions };
     })
-concluded (Err Memory) stated now mid new q keeps same s ok err = subst (λ n. Concluded (Err Memory) stated now n)
+concluded (Err (Memory memory)) stated now mid new q keeps same s ok err = subst (λ n. Concluded (Err (Memory memory)) stated now n)
     (sym err.0) (record { concludes = (same.theorems, memory_refuses stated); keeps = keeps; same = same.basis })
 concluded (Err e) stated now mid new q keeps same s ok err = cc

@@ -7,6 +7,7 @@ use Rattle.ot_logic.specs.Naming.{names}
 use Rattle.ot_logic.specs.Faults.{Fault, NotFunction, ArgumentType, NotBool, NotEquation, NotAlphaEqual}
 use Rattle.ot_logic.specs.Faults.{VarFreeInHyps, NotRedex, Nesting, Primitive, AlreadyDefined, SymbolInUse, NotClosed}
 use Rattle.ot_logic.specs.Faults.{TypeVarEscapes, BadDefinitionList, HypothesesPresent, NotApplication, BadTypeVars}
+use Rattle.ot_logic.specs.RanOut.{ran_out}
 use Rattle.ot_logic.specs.Renamed.{map_symbol}
 use Rattle.ot_type.specs.declared.fault.TableFault.{TableFault}
 use Rattle.ot_type.specs.declared.fault.TableFault.TheVariants as types
@@ -25,13 +26,13 @@ use Rattle.ot_kernel.specs.declared.fault.RuleFault.TheVariants as rules
 
 abbrev pub table_fault : TableFault → Option (Fault Name)
 table_fault types.Nesting = Some Nesting
-table_fault types.Memory = None
+table_fault (types.Memory memory) = None
 
 abbrev pub term_fault : TermFault → Option (Fault Name)
 term_fault terms.NotFunction = Some NotFunction
 term_fault terms.ArgumentType = Some ArgumentType
 term_fault terms.Nesting = Some Nesting
-term_fault terms.Memory = None
+term_fault (terms.Memory memory) = None
 
 -- of a definition, whose symbols have the names that the numbers stand for
 abbrev pub definition_fault : {N : Type 0} → (ℕ → N) → DefineFault → Option (Fault N)
@@ -44,7 +45,7 @@ definition_fault read (definitions.AlreadyDefined s) = Some (AlreadyDefined (map
 definition_fault read (definitions.SymbolInUse s) = Some (SymbolInUse (map_symbol read (symbol_of s)))
 definition_fault read definitions.NotClosed = Some NotClosed
 definition_fault read definitions.TypeVarEscapes = Some TypeVarEscapes
-definition_fault read definitions.Memory = None
+definition_fault read (definitions.Memory memory) = None
 
 -- over any names
 abbrev pub rule_fault : {N : Type 0} → (ℕ → N) → RuleFault → Option (Fault N)
@@ -57,7 +58,7 @@ rule_fault read rules.VarFreeInHyps = Some VarFreeInHyps
 rule_fault read rules.NotRedex = Some NotRedex
 rule_fault read rules.Nesting = Some Nesting
 rule_fault read (rules.Define e) = definition_fault read e
-rule_fault read rules.Memory = None
+rule_fault read (rules.Memory memory) = None
 
 -- a refusal is the stated one
 abbrev pub Refuses : {X E : Type 0} → (E → Option (Fault Name)) → E → Result X (Fault Name) → Type 0
@@ -66,7 +67,7 @@ Refuses fault_of e stated = (f : Fault Name) → fault_of e ≡ Some f → state
 -- a rule's refusal is the stated one, where numbers stand for these names; running out of memory never comes as a
 -- definition's refusal
 abbrev pub RefusesBy : {X N : Type 0} → (ℕ → N) → RuleFault → Result X (Fault N) → Type 0
-RefusesBy {X} {N} read e stated = (e ≢ rules.Define definitions.Memory)
+RefusesBy {X} {N} read e stated = (e ≢ rules.Define (definitions.Memory ran_out))
     × ((f : Fault N) → rule_fault read e ≡ Some f → stated ≡ Err f)
 
 -- the same whatever numbers stand for: no rule but a definition names a symbol

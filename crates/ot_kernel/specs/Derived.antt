@@ -1,6 +1,7 @@
 -- A theorem that a rule derives, as the next of a kernel's theorems.
 use Rattle.std.specs.Prelude.{◌≡◌, ℕ, [], ◌∷◌, ◌++◌, length, Result, Ok, Err}
 use Rattle.ot_logic.specs.Naming.{names}
+use Rattle.ot_logic.specs.RanOut.{ran_out}
 use Rattle.ot_laws.specs.Theorem.{IsTheorem}
 use Rattle.ot_kernel.specs.declared.theorem.Theorem.{Theorem}
 use Rattle.ot_kernel.specs.declared.fault.RuleFault.{RuleFault}
@@ -14,9 +15,9 @@ pub record Follows (s : State) (th : Theorem) : Type 0 where
   pub follows : IsTheorem names s.assumptions s.definitions (sequent_of s.terms th)
 
 -- a theorem that was derived takes the next number, where memory allows; a refusal stays
-abbrev pub Adds : Result ℕ RuleFault → Result Theorem RuleFault → State → State → Type 0
-Adds (Ok id) (Ok th) old new = (new ≡ record old { theorems = old.theorems ++ sequent_of old.terms th ∷ [] })
+abbrev pub AddsTheorem : Result ℕ RuleFault → Result Theorem RuleFault → State → State → Type 0
+AddsTheorem (Ok id) (Ok th) old new = (new ≡ record old { theorems = old.theorems ++ sequent_of old.terms th ∷ [] })
     × (id ≡ length old.theorems)
-Adds (Ok id) (Err f) old new = ⊥
-Adds (Err e) (Ok th) old new = (new ≡ old) × (e ≡ Memory)
-Adds (Err e) (Err f) old new = (new ≡ old) × (e ≡ f)
+AddsTheorem (Ok id) (Err f) old new = ⊥
+AddsTheorem (Err e) (Ok th) old new = (new ≡ old) × (e ≡ Memory ran_out)
+AddsTheorem (Err e) (Err f) old new = (new ≡ old) × (e ≡ f)

@@ -19,9 +19,9 @@ abbrev pub equation_rule : {N : Type 0} → Alphabet N → Tm N → Tm N → Res
 equation_rule alphabet a b = limited alphabet (equation alphabet (type_of alphabet a) a b)
 
 -- the number of a term that is made over the table, or the stated refusal
-abbrev pub Makes : Result ℕ RuleFault → Result (Tm ℕ) (Fault ℕ) → List (Named ℕ) → Type 0
-Makes (Ok id) stated ts = (id < length ts) × (stated ≡ Ok (tm_at ts id))
-Makes (Err e) stated ts = RefusesRule e stated
+abbrev pub IsMadeTerm : Result ℕ RuleFault → Result (Tm ℕ) (Fault ℕ) → List (Named ℕ) → Type 0
+IsMadeTerm (Ok id) stated ts = (id < length ts) × (stated ≡ Ok (tm_at ts id))
+IsMadeTerm (Err e) stated ts = RefusesRule e stated
 
 -- the numbers a and b are of terms of this type
 pub record HaveType (ts : List (Named ℕ)) (ty : Ty ℕ) (a b : ℕ) : Type 0 where

@@ -33,7 +33,7 @@ module _ {N : Type 0} (alphabet : Alphabet N) (a r : N) where
   open_theorems_at n abs rep vs _ = []
 
 module _ {N : Type 0} (alphabet : Alphabet N) where
-  -- (\v. p v) v = p v, the deepest term on the way to them
+  -- (\v. p v) v = p v; once p is four levels deep, no term on the way to them is deeper
   abbrev pub beta_over : Variable N → Tm N → Tm N
   beta_over v p = equation alphabet (bool_ty alphabet) (App (Abs v.ty (App p (Bound 0))) (Free v)) (App p (Free v))
 

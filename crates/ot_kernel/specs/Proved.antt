@@ -56,8 +56,8 @@ DerivesBoth (Ok p) stated ts = IsInside (length ts) p.0 × IsInside (length ts) 
 DerivesBoth (Err e) stated ts =
     RefusesRule e (unless {E = Fault ℕ} Nesting (list_all (is_shallow_sequent numbers) stated))
 
--- two theorems, whose sequents are the stated ones, and the deepest term on the way to them is within the nesting
--- limit; a refusal is that of the limit, where this term passes it
+-- two theorems, whose sequents are the stated ones, and this term, which stands for those on the way to them, is within
+-- the nesting limit; a refusal is that of the limit, where this term passes it
 abbrev pub DerivesOpen : Result (Theorem × Theorem) RuleFault → Tm ℕ → List (Sequent ℕ) → List (Named ℕ) → Type 0
 DerivesOpen (Ok p) deepest stated ts = IsInside (length ts) p.0 × IsInside (length ts) p.1
     × (stated ≡ numbered_sequent ts p.0 ∷ numbered_sequent ts p.1 ∷ []) × (is_shallow numbers deepest ≡ true)

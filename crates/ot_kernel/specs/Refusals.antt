@@ -12,19 +12,19 @@ use Rattle.ot_kernel.specs.declared.fault.RuleFault.TheVariants as rules
 
 abbrev pub of_table : TableFault → RuleFault
 of_table types.Nesting = rules.Nesting
-of_table types.Memory = rules.Memory
+of_table (types.Memory memory) = rules.Memory memory
 
 abbrev pub of_term : TermFault → RuleFault
 of_term terms.NotFunction = rules.NotFunction
 of_term terms.ArgumentType = rules.ArgumentType
 of_term terms.Nesting = rules.Nesting
-of_term terms.Memory = rules.Memory
+of_term (terms.Memory memory) = rules.Memory memory
 
 abbrev pub of_subst : SubstFault → RuleFault
 of_subst substitutions.Nesting = rules.Nesting
 of_subst substitutions.NotRedex = rules.NotRedex
-of_subst substitutions.Memory = rules.Memory
+of_subst (substitutions.Memory memory) = rules.Memory memory
 
 abbrev pub of_define : DefineFault → RuleFault
-of_define definitions.Memory = rules.Memory
+of_define (definitions.Memory memory) = rules.Memory memory
 of_define e = rules.Define e

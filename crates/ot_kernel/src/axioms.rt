@@ -11,6 +11,7 @@ ghost use Rattle.ot_kernel.specs.Spelled.{sequent_of, IsInside};
 ghost use Rattle.ot_kernel.specs.Axioms.{axiom_rule};
 ghost use Rattle.ot_kernel.specs.Answers.{Assumes};
 ghost use Rattle.ot_kernel.specs.Supposed.{IsProposed, IsSupposed, supposing};
+ghost use Rattle.ot_logic.specs.RanOut.{ran_out};
 
 use crate::fault::RuleFault;
 use crate::hypotheses::once_each;
@@ -55,7 +56,7 @@ impl Kernel {
     fn supposed(&mut self, theorem: Theorem) -> Result<ThmId, RuleFault>
         requires { IsProposed self.old theorem }
         ensures ok { IfOk result (λ id. IsSupposed id (sequent_of self.old.terms theorem) self.old self.new) }
-        ensures err { IfErr result (λ e. (self.new ≡ self.old) × (e ≡ RuleFault.Memory)) }
+        ensures err { IfErr result (λ e. (self.new ≡ self.old) × (e ≡ RuleFault.Memory ran_out)) }
     {
         if let Some(known) = self.assumption_of(&theorem) {
             return Ok(known);
@@ -111,16 +112,16 @@ impl Kernel {
             ≡ None }
         ensures ok { IfOk result (λ id. (id ≡ length self.old.theorems)
             × (self.new ≡ supposing self.old (sequent_of self.old.terms theorem))) }
-        ensures err { IfErr result (λ e. (self.new ≡ self.old) × (e ≡ RuleFault.Memory)) }
+        ensures err { IfErr result (λ e. (self.new ≡ self.old) × (e ≡ RuleFault.Memory ran_out)) }
     {
         let class = self.terms.class(theorem.concl);
         let place = self.assumptions.len();
         self.places.note(class, place)?;
         let id = ThmId(self.theorems.len());
         self.theorems.push(theorem)?;
-        if self.assumptions.push(id).is_err() {
+        if let Err(refused) = self.assumptions.push(id) {
             let _ = self.theorems.pop();
-            return Err(RuleFault::Memory);
+            return Err(RuleFault::from(refused));
         }
         Ok(id)
     }

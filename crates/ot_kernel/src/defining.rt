@@ -13,12 +13,13 @@ ghost use Rattle.ot_subst.specs.Substitution.{variable_part, IsSubstOf};
 ghost use Rattle.ot_subst.specs.Walk.{NamesBelow, IsLater};
 ghost use Rattle.ot_kernel.specs.declared.fault.RuleFault.TheVariants.{Memory as OutOfMemory};
 ghost use Rattle.ot_kernel.specs.Numbered.{tm_at, numbered_sequent, Derives, IsGrownBy};
-ghost use Rattle.ot_kernel.specs.Equating.{limited, Makes};
+ghost use Rattle.ot_kernel.specs.Equating.{limited, IsMadeTerm};
 ghost use Rattle.ot_kernel.specs.Spelled.{IsInside};
 ghost use Rattle.ot_kernel.specs.Defining.{zipped};
 ghost use Rattle.ot_kernel.specs.Opening.{beta_over};
 ghost use Rattle.ot_kernel.specs.Proved.{bound_of_names, IsNumberOf, equal_functions};
 ghost use Rattle.ot_kernel.specs.Proved.{trip, TurnsBack, MakesTrip, DerivesBoth};
+ghost use Rattle.ot_logic.specs.RanOut.{ran_out};
 
 use crate::equations::{abstract_from, apply, equate};
 use crate::fault::RuleFault;
@@ -103,7 +104,7 @@ pub(crate) fn new_type(
     vars: &[NameId],
 ) -> Result<TypeId, RuleFault>
     ensures ok { IfOk result (IsNumberOf terms.new.types (TyOp op (tys_of_vars numbers vars.now))) }
-    ensures err { IfErr result (λ e. e ≡ OutOfMemory) }
+    ensures err { IfErr result (λ e. e ≡ OutOfMemory ran_out) }
     ensures grown { IsGrownTo (bound_of_names (op ∷ vars.now)) terms.old terms.new }
 {
     let args = type_variables(alloc, terms, vars)?;
@@ -134,7 +135,7 @@ pub(crate) fn constant_between(
 ) -> Result<TermId, RuleFault>
     requires from { from < length terms.old.types }
     requires to { to < length terms.old.types }
-    ensures makes { Makes result (limited numbers
+    ensures makes { IsMadeTerm result (limited numbers
         (Con name (fun_ty numbers (type_at terms.old.types from) (type_at terms.old.types to)))) terms.new.terms }
     ensures grown { IsGrownTo (bound_of_names (0 ∷ name ∷ [])) terms.old terms.new }
 {
@@ -259,7 +260,7 @@ pub(crate) fn list_theorem(
         (subst_tm numbers []
         (constants_for numbers (zipped numbers cs.now (map (variable_of terms.old.types) vars.now)))
         (tm_at terms.old.terms th.now.concl)))) }
-    ensures err { IfErr result (λ e. e ≡ OutOfMemory) }
+    ensures err { IfErr result (λ e. e ≡ OutOfMemory ran_out) }
     ensures later { IsLater names.old names.new terms.old terms.new }
     ensures name_table { IsNameTable names.new }
 {

@@ -16,6 +16,7 @@ ghost use Rattle.ot_define.specs.Signature.{with_symbols};
 ghost use Rattle.ot_kernel.specs.Accepting.{accepting, defining, IsAcceptable};
 ghost use Rattle.ot_kernel.specs.Defining.{all_defined, all_used, const_definition, list_definition, zipped};
 ghost use Rattle.ot_kernel.specs.Answers.{RefusesBy, IsSymbolIn, Defines};
+ghost use Rattle.ot_logic.specs.RanOut.{ran_out};
 
 use crate::defining::{const_theorem, list_theorem};
 use crate::definition::Definition;
@@ -77,7 +78,7 @@ impl Kernel {
             ≡ theorems name_alphabet (ConDef (name_at self.old name) (term_at self.old t)) }
         ensures ok { IfOk result (λ id. (id ≡ length self.old.theorems)
             × (self.new ≡ defining self.old (ConDef (name_at self.old name) (term_at self.old t)))) }
-        ensures err { IfErr result (λ e. (self.new ≡ self.old) × (e ≡ RuleFault.Memory)) }
+        ensures err { IfErr result (λ e. (self.new ≡ self.old) × (e ≡ RuleFault.Memory ran_out)) }
     {
         let id = ThmId(self.theorems.len());
         let used = self.symbols_in(&[t, theorem.concl])?;
@@ -144,7 +145,7 @@ impl Kernel {
             × (self.new ≡ defining self.old
             (ListDef (zipped name_alphabet (map (name_at self.old) names.now) (map (variable_at self.old) vars.now))
             (theorem_at self.old premise)))) }
-        ensures err { IfErr result (λ e. (self.new ≡ self.old) × (e ≡ RuleFault.Memory)) }
+        ensures err { IfErr result (λ e. (self.new ≡ self.old) × (e ≡ RuleFault.Memory ran_out)) }
     {
         let id = ThmId(self.theorems.len());
         let used = self.symbols_with(premise, &[theorem.concl])?;

@@ -8,7 +8,7 @@ ghost use Rattle.ot_logic.specs.Rules.{abs_thm_rule, app_thm_rule, sym_rule, tra
 ghost use Rattle.ot_term.specs.TermTable.{variable_of, IsTermTable};
 ghost use Rattle.ot_kernel.specs.declared.fault.RuleFault.TheVariants.{NotEquation};
 ghost use Rattle.ot_kernel.specs.Numbered.{tm_at, numbered_sequent, Derives, IsGrown, IsGrownBy};
-ghost use Rattle.ot_kernel.specs.Equating.{equation_rule, Makes, AreSides, GivesOuter};
+ghost use Rattle.ot_kernel.specs.Equating.{equation_rule, IsMadeTerm, AreSides, GivesOuter};
 ghost use Rattle.ot_kernel.specs.Spelled.{IsInside};
 
 use crate::fault::RuleFault;
@@ -23,7 +23,7 @@ pub(crate) fn equate(terms: &mut Terms, a: TermId, b: TermId) -> Result<TermId, 
     requires a { a < length terms.old.terms }
     requires b { b < length terms.old.terms }
     requires typed { type_in numbers [] (tm_at terms.old.terms a) ≡ type_in numbers [] (tm_at terms.old.terms b) }
-    ensures makes { Makes result (equation_rule numbers (tm_at terms.old.terms a) (tm_at terms.old.terms b)) terms.new.terms }
+    ensures makes { IsMadeTerm result (equation_rule numbers (tm_at terms.old.terms a) (tm_at terms.old.terms b)) terms.new.terms }
     ensures grown { IsGrown terms.old terms.new }
 {
     Ok(terms.eq(a, b)?)
@@ -48,7 +48,7 @@ fn sides(terms: &Terms, id: TermId) -> Result<(TermId, TermId), RuleFault>
 pub(crate) fn apply(terms: &mut Terms, f: TermId, x: TermId) -> Result<TermId, RuleFault>
     requires f { f < length terms.old.terms }
     requires x { x < length terms.old.terms }
-    ensures makes { Makes result (app_rule numbers (tm_at terms.old.terms f) (tm_at terms.old.terms x)) terms.new.terms }
+    ensures makes { IsMadeTerm result (app_rule numbers (tm_at terms.old.terms f) (tm_at terms.old.terms x)) terms.new.terms }
     ensures grown { IsGrown terms.old terms.new }
 {
     Ok(terms.app(f, x)?)
@@ -58,7 +58,7 @@ pub(crate) fn apply(terms: &mut Terms, f: TermId, x: TermId) -> Result<TermId, R
 pub(crate) fn abstract_from(terms: &mut Terms, v: &VarKey, t: TermId) -> Result<TermId, RuleFault>
     requires ty { v.now.ty < length terms.old.types }
     requires t { t < length terms.old.terms }
-    ensures makes { Makes result (abs_rule numbers (variable_of terms.old.types v.now) (tm_at terms.old.terms t))
+    ensures makes { IsMadeTerm result (abs_rule numbers (variable_of terms.old.types v.now) (tm_at terms.old.terms t))
         terms.new.terms }
     ensures grown { IsGrownBy v.now.name terms.old terms.new }
 {

@@ -1,6 +1,7 @@
 ghost use Rattle.std.specs.Prelude.{◌≡◌};
 ghost use Rattle.ot_kernel.specs.declared.fault.RuleFault.TheVariants.{Memory as OutOfMemory};
 ghost use Rattle.ot_kernel.specs.Refusals.{of_define, of_table, of_term, of_subst};
+ghost use Rattle.ot_logic.specs.RanOut.{ran_out};
 
 use ot_define::DefineFault;
 use ot_logic::Memory;
@@ -31,30 +32,30 @@ pub enum RuleFault {
     /// The definition is refused.
     Define(DefineFault),
     /// Memory ran out.
-    Memory,
+    Memory(Memory),
 }
 
 impl From<Memory> for RuleFault {
-    ghost from_gives = { λ _ r. r ≡ OutOfMemory };
+    ghost from_gives = { λ _ r. r ≡ OutOfMemory ran_out };
 
-    fn from(_: Memory) -> RuleFault {
-        RuleFault::Memory
+    fn from(memory: Memory) -> RuleFault {
+        RuleFault::Memory(memory)
     }
 }
 
 impl<T: Drop> From<AllocFailed<T>> for RuleFault {
-    ghost from_gives = { λ _ r. r ≡ OutOfMemory };
+    ghost from_gives = { λ _ r. r ≡ OutOfMemory ran_out };
 
-    fn from(_: AllocFailed<T>) -> RuleFault {
-        RuleFault::Memory
+    fn from(refused: AllocFailed<T>) -> RuleFault {
+        RuleFault::Memory(Memory::from(refused))
     }
 }
 
 impl From<AllocError> for RuleFault {
-    ghost from_gives = { λ _ r. r ≡ OutOfMemory };
+    ghost from_gives = { λ _ r. r ≡ OutOfMemory ran_out };
 
-    fn from(_: AllocError) -> RuleFault {
-        RuleFault::Memory
+    fn from(refused: AllocError) -> RuleFault {
+        RuleFault::Memory(Memory::from(refused))
     }
 }
 
@@ -64,7 +65,7 @@ impl From<TableFault> for RuleFault {
     fn from(fault: TableFault) -> RuleFault {
         match fault {
             TableFault::Nesting => RuleFault::Nesting,
-            TableFault::Memory => RuleFault::Memory,
+            TableFault::Memory(memory) => RuleFault::Memory(memory),
         }
     }
 }
@@ -77,7 +78,7 @@ impl From<TermFault> for RuleFault {
             TermFault::NotFunction => RuleFault::NotFunction,
             TermFault::ArgumentType => RuleFault::ArgumentType,
             TermFault::Nesting => RuleFault::Nesting,
-            TermFault::Memory => RuleFault::Memory,
+            TermFault::Memory(memory) => RuleFault::Memory(memory),
         }
     }
 }
@@ -89,7 +90,7 @@ impl From<SubstFault> for RuleFault {
         match fault {
             SubstFault::Nesting => RuleFault::Nesting,
             SubstFault::NotRedex => RuleFault::NotRedex,
-            SubstFault::Memory => RuleFault::Memory,
+            SubstFault::Memory(memory) => RuleFault::Memory(memory),
         }
     }
 }
@@ -99,7 +100,7 @@ impl From<DefineFault> for RuleFault {
 
     fn from(fault: DefineFault) -> RuleFault {
         match fault {
-            DefineFault::Memory => RuleFault::Memory,
+            DefineFault::Memory(memory) => RuleFault::Memory(memory),
             _ => RuleFault::Define(fault),
         }
     }

@@ -10,7 +10,8 @@ ghost use Rattle.ot_kernel.specs.State.{State, name_at, type_at, types_at, varia
 ghost use Rattle.ot_kernel.specs.State.{terms_at, theorem_at, Keeps, SameBasis, SameTheorems, IsSoundState};
 ghost use Rattle.ot_kernel.specs.Definitions.{definition_at, IsHeld};
 ghost use Rattle.ot_kernel.specs.Answers.{MakesType, MakesTerm, MakesAbstraction, Concludes};
-ghost use Rattle.ot_kernel.specs.Derived.{Follows, Adds};
+ghost use Rattle.ot_kernel.specs.Derived.{Follows, AddsTheorem};
+ghost use Rattle.ot_logic.specs.RanOut.{ran_out};
 
 use crate::definition::Definition;
 use crate::fault::RuleFault;
@@ -249,7 +250,7 @@ impl Kernel {
         ensures ok { IfOk result
             (λ id. (self.new ≡ record self.old { theorems = self.old.theorems ++ sequent_of self.old.terms th ∷ [] })
             × (id ≡ length self.old.theorems)) }
-        ensures err { IfErr result (λ e. (self.new ≡ self.old) × (e ≡ RuleFault.Memory)) }
+        ensures err { IfErr result (λ e. (self.new ≡ self.old) × (e ≡ RuleFault.Memory ran_out)) }
     {
         let id = ThmId(self.theorems.len());
         self.theorems.push(th)?;
@@ -263,7 +264,7 @@ impl Kernel {
         theorem: Result<Theorem, RuleFault>,
     ) -> Result<ThmId, RuleFault>
         requires { IfOk theorem (Follows self.old) }
-        ensures { Adds result theorem self.old self.new }
+        ensures { AddsTheorem result theorem self.old self.new }
     {
         self.conclude(theorem?)
     }
@@ -288,6 +289,8 @@ impl Kernel {
 
     /// Whether a theorem is this sequent: whether the set of its hypotheses and its conclusion are these, up to the
     /// names of binders.
+    ///
+    /// For long lists of hypotheses it asks for memory, and compares one by one where there is none.
     pub fn same(&self, th: ThmId, hyps: &[TermId], concl: TermId) -> bool
         requires th { th < length self.now.theorems }
         requires hyps { All (λ i. i < length self.now.terms) hyps.now }

@@ -141,7 +141,7 @@ fn open_theorems(
         name: NameId::R,
         ty: u,
     };
-    // Of all terms on the way to the two, its conclusion is the deepest.
+    // Once `p` is four levels deep, no term on the way to the two is deeper than its conclusion.
     let _deepest = beta_theorem(terms, &r, p)?;
     let first = open_abs_theorem(terms, &a, abs, rep)?;
     let second = open_rep_theorem(terms, &r, abs, rep, p)?;

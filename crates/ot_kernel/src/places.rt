@@ -15,7 +15,8 @@ use ot_term::TermId;
 use std::alloc::Global;
 use std::marker::Model;
 
-/// For the alpha classes of a list's terms, the first place at which the list has a term of the class.
+/// For the alpha classes of a list's terms, the place of the first term of the class. Contracts say that no term before
+/// it is of the class.
 #[derive(Drop)]
 pub struct Places {
     firsts: IndexMap<ClassId, usize>,

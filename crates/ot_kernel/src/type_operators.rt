@@ -14,6 +14,7 @@ ghost use Rattle.ot_kernel.specs.Accepting.{defining_more};
 ghost use Rattle.ot_kernel.specs.Defining.{all_defined, all_used, type_definition};
 ghost use Rattle.ot_kernel.specs.Proved.{bound_of_names, DerivesBoth, IsPremise, ArePartsOf};
 ghost use Rattle.ot_kernel.specs.Answers.{RefusesBy, IsSymbolIn, DefinesType};
+ghost use Rattle.ot_logic.specs.RanOut.{ran_out};
 
 use crate::defining::type_theorems;
 use crate::definition::Definition;
@@ -136,7 +137,7 @@ impl Kernel {
             (TyDef (name_at self.old name) (name_at self.old abs) (name_at self.old rep)
             (map (name_at self.old) vars.now) (theorem_at self.old premise))
             (map (sequent_of self.old.terms) further.items))) }
-        ensures err { IfErr result (λ e. (self.new ≡ self.old) × (e ≡ RuleFault.Memory)) }
+        ensures err { IfErr result (λ e. (self.new ≡ self.old) × (e ≡ RuleFault.Memory ran_out)) }
     {
         let abs_th = ThmId(self.theorems.len());
         let rep_th = ThmId(self.theorems.len() + 1);

@@ -45,7 +45,7 @@ fn end_of(answer: &Result<Vec<Export>, LinkFault>, session: &Session) -> End {
         Err(LinkFault::TheoryTooLarge { .. }) => End::TooLarge,
         Err(LinkFault::NoFile { .. }) => End::NoFile,
         Err(LinkFault::ReadFault { .. }) => End::ReadFault,
-        Err(LinkFault::Memory) => End::Memory,
+        Err(LinkFault::Memory(_)) => End::Memory,
     }
 }
 
@@ -58,7 +58,7 @@ fn is_at(answer: &Result<Vec<Export>, LinkFault>, wanted: &str) -> bool {
         Err(LinkFault::TheoryTooLarge { path }) => path.as_str() == wanted,
         Err(LinkFault::NoFile { path }) => path.as_str() == wanted,
         Err(LinkFault::ReadFault { path }) => path.as_str() == wanted,
-        Ok(_) | Err(LinkFault::Memory) => wanted.is_empty(),
+        Ok(_) | Err(LinkFault::Memory(_)) => wanted.is_empty(),
     }
 }
 

@@ -87,7 +87,8 @@ pub fn term_rules_law()
     ensures of_numbers { TermRulesAreSound numbers }
 {}
 
-/// The sequent that a rule gives is derivable where those that it is given are, the three derived rules too.
+/// The sequent that a rule gives is a theorem where those that it is given are: derivable, of propositions alone, and with
+/// no hypothesis twice. So are those of the three derived rules.
 pub fn rules_are_sound_law()
     ensures of_names { (al : List (Sequent Name)) (dl : List (Definition Name)) → RulesAreSound names al dl }
     ensures of_numbers { (al : List (Sequent ℕ)) (dl : List (Definition ℕ)) → RulesAreSound numbers al dl }

@@ -5,7 +5,7 @@ use Rattle.std.proofs.Common.{◌≡◌, ◌∙◌, ℕ, List, map, sym, ap}
 use Rattle.ot_scan.specs.Lines.{Lines}
 use Rattle.ot_machine.specs.States.{State, ArticleState, Context, fresh_article}
 use Rattle.ot_machine.specs.Run.{Outcome, run}
-use Rattle.ot_machine.specs.Meaning.{article_of, run_of, state_of, export_of}
+use Rattle.ot_machine.specs.Meaning.{article_of, run_of, machine_state, export_of}
 use Rattle.ot_machine.specs.Answers.{Runs}
 use Rattle.ot_machine.specs.declared.machine.Export.{Export}
 use Rattle.ot_machine.specs.declared.machine.Machine.{Machine}
@@ -17,6 +17,7 @@ use Rattle.ot_link.specs.Stops.{answered_by}
 use Rattle.ot_link.specs.Blocks.{article_end}
 use Rattle.ot_link.specs.Answers.{Stops, Comes, ran_of, EndsAs}
 use Rattle.ot_link.specs.declared.fault.LinkFault.TheVariants as link
+use Rattle.ot_logic.specs.RanOut.{ran_out}
 
 -- what follows from a fact about an answer that is Ok
 pub on-ok : {A E : Type 0} {P Q : Type 0} (r : Result A E) → (P → Q) → OnOk r P → OnOk r Q
@@ -32,25 +33,25 @@ module _ (s0 s : Session) (before after : Machine) (c : Context) (lines : Lines)
   abbrev start : ArticleState → State
   start a = record { article = a; run = run_of s0 }
 
-  begun : run c lines (start fresh_article) ≡ run c lines (state_of s0 before)
+  begun : run c lines (start fresh_article) ≡ run c lines (machine_state s0 before)
   begun = ap (λ a. run c lines (start a)) (sym fresh)
 
   -- the exports are copied, or memory runs out
   pub article-ended : (r : Result (Vec Export Global) ArticleFault)
-      → Runs s.kernel (Ok tt) c lines (state_of s0 before) (state_of s after)
-      → IfOk r (λ copy. copy.items ≡ after.exports.items) → IfErr r (λ e. e ≡ article.Memory)
+      → Runs s.kernel (Ok tt) c lines (machine_state s0 before) (machine_state s after)
+      → IfOk r (λ copy. copy.items ≡ after.exports.items) → IfErr r (λ e. e ≡ article.Memory ran_out)
       → EndsAs s r (run c lines (start fresh_article))
   article-ended (Ok copy) h same memory =
-      (state_of s after, begun ∙ h, λ i. record { exports = map (export_of s) (same i); run = run_of s })
+      (machine_state s after, begun ∙ h, λ i. record { exports = map (export_of s) (same i); run = run_of s })
   article-ended (Err (article.At line fault)) h same memory = absurd (cc)
   article-ended (Err article.ReadFault) h same memory = tt
-  article-ended (Err article.Memory) h same memory = tt
+  article-ended (Err (article.Memory _)) h same memory = tt
 
-  pub article-stopped : (e : ArticleFault) → Runs s.kernel (Err e) c lines (state_of s0 before) (state_of s after)
+  pub article-stopped : (e : ArticleFault) → Runs s.kernel (Err e) c lines (machine_state s0 before) (machine_state s after)
       → EndsAs s (Err e) (run c lines (start fresh_article))
-  article-stopped (article.At line fault) h = (state_of s after, h.0, h.1, begun ∙ h.2)
+  article-stopped (article.At line fault) h = (machine_state s after, h.0, h.1, begun ∙ h.2)
   article-stopped article.ReadFault h = tt
-  article-stopped article.Memory h = tt
+  article-stopped (article.Memory memory) h = tt
 
 -- ---- the article of a path
 

@@ -7,7 +7,7 @@ use Rattle.std.proofs.Common.{ℕ, zero, suc, List, [], ◌∷◌, map, Bool, tr
 use Rattle.std.proofs.lemmas.List.Elements.{All-nil, All-append}
 use Rattle.ot_scan.specs.Lines.{Lines, Finished, Broken, Next, lines_of}
 use Rattle.ot_theory.specs.Theory.{BlockText}
-use Rattle.ot_blocks.specs.Structure.{source_of, place_of}
+use Rattle.ot_blocks.specs.Structure.{source_of, block_places}
 use Rattle.ot_blocks.specs.Paths.{article_path, package_path}
 use Rattle.ot_machine.specs.States.{Export, RunState, State, Context, fresh_article, fresh_run, no_context}
 use Rattle.ot_machine.specs.Run as articles
@@ -195,14 +195,14 @@ module _ (e : Setting) (opener : Opener) (opens : OpenerLeaves opener) (path : L
       → IfOk (run_planned e opener path outer r f).answer (Leaves r)
   plan-leaves f outer r ready =
       bind (run_blocks e opener path outer f f.plan.order none_done r)
-      (λ ended. answered (Ok (record { exports = exports_at ended.0 (place_of f.blocks (codes "main")); run = ended.1 })))
+      (λ ended. answered (Ok (record { exports = exports_at ended.0 (block_places f.blocks (codes "main")); run = ended.1 })))
       (LeavesDone r) (Leaves r)
       (blocks-leave outer f f.plan.order none_done r ready
       (λ b. All-nil (IsLawfulExport (run_basis IsAnyName r))))
       (λ ended h. record {
         run = h.run;
         larger = h.larger;
-        exports = place-lawful ended.1 ended.0 (place_of f.blocks (codes "main")) h.done;
+        exports = place-lawful ended.1 ended.0 (block_places f.blocks (codes "main")) h.done;
       })
 
   -- ---- a theory file

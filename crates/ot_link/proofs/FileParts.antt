@@ -11,6 +11,7 @@ use Rattle.ot_io.specs.Readings.{HasReadFiles}
 use Rattle.ot_io.proofs.Reading.{HasRead-map}
 use Rattle.ot_io.proofs.Readings.{Files-none, Files-one}
 use Rattle.ot_logic.specs.Answers.{some_or}
+use Rattle.ot_logic.specs.RanOut.{ran_out}
 use Rattle.ot_kernel.specs.State as kernel
 use Rattle.ot_link.specs.Stops.{Stop, TooLarge, Missing, Linked, answered, answered_by, go_on, ◌>>=◌, Setting, file_at}
 use Rattle.ot_link.specs.Planned.{within}
@@ -43,7 +44,7 @@ module _ {A : Type 0} (e : Setting) (path : List ℕ) (f : List ℕ → Result A
 
 -- where memory ran out, whatever the files hold
 pub out-of-memory : {X A : Type 0} {told : Option Folder} (k : kernel.State) (view : X → A) (r : Result X LinkFault)
-    (stated : Folder → Linked A) → IsErrAnd r (λ e. e ≡ link.Memory)
+    (stated : Folder → Linked A) → IsErrAnd r (λ e. e ≡ link.Memory ran_out)
     → HasReadFiles told (λ folder. Comes k view r (stated folder))
 out-of-memory k view (Ok x) stated is = absurd is
 out-of-memory {told = told} k view (Err e) stated is = rw is (Files-none told _ (λ folder. tt))

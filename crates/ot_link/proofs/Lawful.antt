@@ -18,7 +18,7 @@ use Rattle.ot_machine.specs.Lawful.{Keeps, AreLawfulGivens, StatesSequent, AreAp
 use Rattle.ot_machine.specs.Writable.{IsWritable}
 use Rattle.ot_machine.specs.LawfulLaws.{CanBeNamed, FreshIsLawful, LinesAreLawful, LawfulStays}
 use Rattle.ot_machine.specs.Commanded.{LeadsTo}
-use Rattle.ot_machine.specs.Meaning.{export_of, run_of, article_of, state_of, IsRun, IsOf, IsExportIn, Grows}
+use Rattle.ot_machine.specs.Meaning.{export_of, run_of, article_of, machine_state, IsRun, IsOf, IsExportIn, Grows}
 use Rattle.ot_machine.specs.Answers.{NamesSymbolIn}
 use Rattle.ot_machine.specs.Contexts.{given_of, context_of, IsContextOf}
 use Rattle.ot_machine.specs.Rows.{is_exported}
@@ -36,6 +36,7 @@ use Rattle.ot_link.specs.Holding.{held_at, held_of}
 use Rattle.ot_link.specs.Lawful.{basis_of, IsLawfulSession, AreLawfulExports, AreLawfulOnce}
 use Rattle.ot_link.specs.Lawful.{IsLawfulContext, StaysLawful, IsReady, LeavesExports, BlocksAreNaming}
 use Rattle.ot_link.proofs.Held.{exports-kept, held-as}
+use Rattle.ot_logic.specs.RanOut.{ran_out}
 
 -- ---- sessions that stay lawful
 
@@ -104,13 +105,13 @@ empty-ready s c run start fresh i within t placed = record {
 
 module _ (old new : Session) (m n : Machine) (c : code.Context) (fresh : FreshIsLawful IsWritable)
     (lines : LinesAreLawful IsWritable) (said : CanBeNamed IsWritable) (begun : article_of old m ≡ fresh_article)
-    (ready : IsReady old c) (led : LeadsTo (context_of old c) (state_of old m) (state_of new n))
+    (ready : IsReady old c) (led : LeadsTo (context_of old c) (machine_state old m) (machine_state new n))
     (grown : Grows old new) (of : IsOf new n) where
-  article-keeps : Keeps IsWritable (state_of old m) (state_of new n)
+  article-keeps : Keeps IsWritable (machine_state old m) (machine_state new n)
   article-keeps =
       let start = subst (λ (a : states.ArticleState). IsLawful IsWritable (record { article = a; run = run_of old }))
       (sym begun) (fresh.1 (run_of old) ready.lawful) in
-      lines (context_of old c) (state_of old m) (state_of new n) ready.lawful_context.naming said
+      lines (context_of old c) (machine_state old m) (machine_state new n) ready.lawful_context.naming said
       ready.lawful_context.theorems start led
 
   article-stays : StaysLawful old new
@@ -129,7 +130,7 @@ module _ (old new : Session) (m n : Machine) (c : code.Context) (fresh : FreshIs
 
   -- its exports are copied, or memory runs out
   pub article-left : (r : Result (Vec Export Global) ArticleFault) → IfOk r (λ copy. copy.items ≡ n.exports.items)
-      → IfErr r (λ e. e ≡ article.Memory) → LeavesExports NamesSymbolIn r old new
+      → IfErr r (λ e. e ≡ article.Memory ran_out) → LeavesExports NamesSymbolIn r old new
   article-left (Err e) same memory = article-refused e (rw memory tt)
   article-left (Ok copy) same memory =
       let state = article-keeps.0.article in

@@ -70,7 +70,7 @@ module _ (k : kernel.State) where
   stops-answered a b f (link.TheoryTooLarge path) h = f _ h
   stops-answered a b f (link.NoFile path) h = f _ h
   stops-answered a b f (link.ReadFault path) h = h
-  stops-answered a b f link.Memory h = tt
+  stops-answered a b f (link.Memory memory) h = tt
 
 module _ (k : kernel.State) (e : Setting) (opener : Opener) (path : List ℕ) (outer : Context) (r : RunState) where
   abbrev rest-of_text : (text : List ℕ) → Linked Ran

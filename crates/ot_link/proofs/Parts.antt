@@ -60,7 +60,7 @@ module _ {A B : Type 0} (k : kernel.State) (l : Linked A) (f : A → Linked B) w
   stops-first (link.TheoryTooLarge path) h = stopped _ h
   stops-first (link.NoFile path) h = stopped _ h
   stops-first (link.ReadFault path) h = needed-went l.paths l.answer f (string_bytes path) h
-  stops-first link.Memory h = tt
+  stops-first (link.Memory memory) h = tt
 
 module _ {A : Type 0} (k : kernel.State) (rest whole : Linked A) (is : IsRest rest whole) where
   pub stops-rest : (e : LinkFault) → Stops k e rest → Stops k e whole
@@ -70,7 +70,7 @@ module _ {A : Type 0} (k : kernel.State) (rest whole : Linked A) (is : IsRest re
   stops-rest (link.TheoryTooLarge path) h = is.answer ∙ h
   stops-rest (link.NoFile path) h = is.answer ∙ h
   stops-rest (link.ReadFault path) h = is.paths (string_bytes path) h
-  stops-rest link.Memory h = tt
+  stops-rest (link.Memory memory) h = tt
 
   -- the result of the rest is that of the whole
   pub comes-rest : {X : Type 0} (view : X → A) (r : Result X LinkFault) → Comes k view r rest → Comes k view r whole

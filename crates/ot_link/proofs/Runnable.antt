@@ -10,7 +10,7 @@ use Rattle.ot_theory.specs.Sound.{IsRightValue, IsRightBlock, IsSound}
 use Rattle.ot_theory.specs.declared.keys.Key.{Key}
 use Rattle.ot_theory.specs.declared.keys.Key.TheVariants as keys
 use Rattle.ot_blocks.specs.Paths.{is_package}
-use Rattle.ot_blocks.specs.Structure.{Places, PlanText, statement_fault, fault_of, place_of, IsPlan}
+use Rattle.ot_blocks.specs.Structure.{Places, PlanText, statement_fault, fault_of, block_places, IsPlan}
 use Rattle.ot_blocks.specs.declared.fault.StructureFault.{StructureFault}
 use Rattle.ot_blocks.specs.declared.fault.StructureFault.TheVariants.{BadPackageName}
 use Rattle.ot_link.specs.Blocks.{source_by, source_at}
@@ -70,4 +70,4 @@ module _ (places : Places) where
 
 -- where a sound theory file has a plan, each of its blocks may run
 pub runnable : (t : TheoryText) (p : PlanText) → IsSound t → IsPlan t.blocks p → All IsRunnable t.blocks
-runnable t p sound is = each-runnable (place_of t.blocks) t.blocks sound.blocks is.sound
+runnable t p sound is = each-runnable (block_places t.blocks) t.blocks sound.blocks is.sound

@@ -3,7 +3,7 @@ use Rattle.std.specs.Prelude.{Ok, codes, slice_get}
 use Rattle.std.proofs.Common.{◌≡◌, ◌∙◌, ◌<◌, ◌+◌, ℕ, List, [], ◌∷◌, length, drop, get_or, sym, ap, subst, add-one}
 use Rattle.std.proofs.Math.Seq.{drop-cons}
 use Rattle.ot_kernel.specs.State as kernel
-use Rattle.ot_blocks.specs.Structure.{place_of}
+use Rattle.ot_blocks.specs.Structure.{block_places}
 use Rattle.ot_machine.specs.States.{Context, RunState}
 use Rattle.ot_link.specs.Stops.{Linked, answered, ◌>>=◌, Setting}
 use Rattle.ot_link.specs.Planned.{Planned}
@@ -19,7 +19,7 @@ module _ (e : Setting) (opener : Opener) (path : List ℕ) (outer : Context) (f 
 
   abbrev finish : Done × RunState → Linked Ran
   finish ended =
-      answered (Ok (record { exports = exports_at ended.0 (place_of f.blocks (codes "main")); run = ended.1 }))
+      answered (Ok (record { exports = exports_at ended.0 (block_places f.blocks (codes "main")); run = ended.1 }))
 
   -- the blocks from a place on are what is left of the run
   abbrev pub IsLeft : ℕ → Done → RunState → Type 0
@@ -66,7 +66,7 @@ module _ (e : Setting) (opener : Opener) (path : List ℕ) (outer : Context) (f 
   -- all of them ran
   pub all-ran : (i : ℕ) (done : Done) (r : RunState) → drop i f.plan.order ≡ [] → IsLeft i done r
       → (run_planned e opener path outer start f).answer
-      ≡ Ok (record { exports = exports_at done (place_of f.blocks (codes "main")); run = r })
+      ≡ Ok (record { exports = exports_at done (block_places f.blocks (codes "main")); run = r })
   all-ran i done r none left =
       let end : IsRest (answered (Ok (done, r))) whole =
       subst (λ bs. IsRest (run_blocks e opener path outer f bs done r) whole) none left in

@@ -15,7 +15,7 @@ use Rattle.std.proofs.lemmas.Option.{slice_get-get_or}
 use Rattle.ot_theory.specs.Theory.{BlockText}
 use Rattle.ot_theory.specs.Answers.{block_of, blocks_of}
 use Rattle.ot_theory.specs.declared.theory.Block.{Block}
-use Rattle.ot_blocks.specs.Structure.{place_of}
+use Rattle.ot_blocks.specs.Structure.{block_places}
 use Rattle.ot_machine.specs.Meaning.{export_of, IsExportIn}
 use Rattle.ot_machine.specs.declared.session.Session.{Session}
 use Rattle.ot_machine.specs.declared.machine.Export.{Export}
@@ -53,7 +53,7 @@ from-at : (bs : List Block) (name : List ℕ) (i : ℕ) → position_from (λ b.
 from-at [] name i = refl
 from-at (b ∷ bs) name i = ap (λ o. if bytes_eq b.name.now name then Some i else o) (from-at bs name (i + 1))
 
-pub place-at : (bs : List Block) (name : List ℕ) → place_of (blocks_of bs) name
+pub place-at : (bs : List Block) (name : List ℕ) → block_places (blocks_of bs) name
     ≡ position (λ b. bytes_eq b.name.now name) bs
 place-at bs name = position_from-zero (λ b. bytes_eq b.name name) (blocks_of bs) ∙ from-at bs name 0
     ∙ sym (position_from-zero (λ b. bytes_eq b.name.now name) bs)

@@ -6,6 +6,7 @@ use Rattle.ot_logic.specs.Names.{Name}
 use Rattle.ot_logic.specs.Lists.{IsMember}
 use Rattle.ot_logic.specs.Faults as faults
 use Rattle.ot_logic.specs.declared.limits.Limits.{Limits}
+use Rattle.ot_logic.specs.RanOut.{ran_out}
 use Rattle.ot_io.specs.Causes.{CountRose}
 use Rattle.ot_io.specs.Folder.{Folder}
 use Rattle.ot_kernel.specs.State as kernel
@@ -45,7 +46,7 @@ Stops k (link.Structure path line fault) l = l.answer ≡ Err (InStructure (stri
 Stops k (link.TheoryTooLarge path) l = l.answer ≡ Err (TooLarge (string_bytes path))
 Stops k (link.NoFile path) l = l.answer ≡ Err (Missing (string_bytes path))
 Stops k (link.ReadFault path) l = IsMember (string_bytes path) l.paths
-Stops k link.Memory l = Unit {0}
+Stops k (link.Memory memory) l = Unit {0}
 
 -- what was made is what is stated
 abbrev pub Comes : {X A : Type 0} → kernel.State → (X → A) → Result X LinkFault → Linked A → Type 0
@@ -63,7 +64,7 @@ EndsAs s (Ok exports) o =
 EndsAs s (Err (article.At line fault)) o = (t : State) × (f : faults.Fault Name)
     × (fault_of (kernel.name_at s.kernel) fault ≡ Some f) × (o ≡ Stopped line f t)
 EndsAs s (Err article.ReadFault) o = Unit {0}
-EndsAs s (Err article.Memory) o = Unit {0}
+EndsAs s (Err (article.Memory memory)) o = Unit {0}
 
 -- the exports' numbers are of the session
 abbrev pub AreExportsIn : Session → Vec code.Export Global → Type 0
@@ -71,13 +72,13 @@ AreExportsIn s exports = All (IsExportIn s) exports.items
 
 -- the symbol that a fault names, where it names one, is of the kernel; and no article's fault is running out of memory
 abbrev pub NamesSymbolIn : kernel.State → LinkFault → Type 0
-NamesSymbolIn k (link.Article path line fault) = IsSymbolIn k fault × (fault ≢ machine.Memory)
+NamesSymbolIn k (link.Article path line fault) = IsSymbolIn k fault × (fault ≢ machine.Memory ran_out)
 NamesSymbolIn k (link.Theory path line fault) = Unit {0}
 NamesSymbolIn k (link.Structure path line fault) = Unit {0}
 NamesSymbolIn k (link.TheoryTooLarge path) = Unit {0}
 NamesSymbolIn k (link.NoFile path) = Unit {0}
 NamesSymbolIn k (link.ReadFault path) = Unit {0}
-NamesSymbolIn k link.Memory = Unit {0}
+NamesSymbolIn k (link.Memory memory) = Unit {0}
 
 -- a missing file is counted, and so is a failure, which is one of the path that was asked for, where that is known
 abbrev pub HasCause : LinkFault → ℕ → ℕ → ℕ → ℕ → Option (List ℕ) → Type 0
@@ -88,7 +89,7 @@ HasCause (link.Article path line fault) misses misses' faults faults' at = Unit 
 HasCause (link.Theory path line fault) misses misses' faults faults' at = Unit {0}
 HasCause (link.Structure path line fault) misses misses' faults faults' at = Unit {0}
 HasCause (link.TheoryTooLarge path) misses misses' faults faults' at = Unit {0}
-HasCause link.Memory misses misses' faults faults' at = Unit {0}
+HasCause (link.Memory memory) misses misses' faults faults' at = Unit {0}
 
 -- a fault of the article of this path, on its own
 abbrev pub IsOfArticle : List ℕ → LinkFault → Type 0
@@ -98,7 +99,7 @@ IsOfArticle path (link.Structure p line fault) = ⊥
 IsOfArticle path (link.TheoryTooLarge p) = ⊥
 IsOfArticle path (link.NoFile p) = ⊥
 IsOfArticle path (link.ReadFault p) = string_bytes p ≡ path
-IsOfArticle path link.Memory = Unit {0}
+IsOfArticle path (link.Memory memory) = Unit {0}
 
 -- only a failure of the source is answered as a read fault
 abbrev pub HasFailed : LinkFault → ℕ → ℕ → Type 0
@@ -108,4 +109,4 @@ HasFailed (link.Structure path line fault) faults faults' = Unit {0}
 HasFailed (link.TheoryTooLarge path) faults faults' = Unit {0}
 HasFailed (link.NoFile path) faults faults' = Unit {0}
 HasFailed (link.ReadFault path) faults faults' = CountRose faults faults'
-HasFailed link.Memory faults faults' = Unit {0}
+HasFailed (link.Memory memory) faults faults' = Unit {0}

@@ -4,7 +4,7 @@ use Rattle.std.specs.Prelude.{slice_index_or, Option, Some, None, Ok, Err, if◌
 use Rattle.std.specs.List.{list_any}
 use Rattle.std.specs.Str.{bytes_eq}
 use Rattle.ot_theory.specs.Theory.{BlockText}
-use Rattle.ot_blocks.specs.Structure.{place_of}
+use Rattle.ot_blocks.specs.Structure.{block_places}
 use Rattle.ot_blocks.specs.Paths.{package_path}
 use Rattle.ot_blocks.specs.declared.fault.StructureFault.TheVariants.{PackageCycle, PackageDepth}
 use Rattle.ot_machine.specs.States.{Export, RunState, Context, fresh_run, no_context}
@@ -50,7 +50,7 @@ exports_at done (Some b) = done b
 abbrev pub run_planned : Setting → Opener → List ℕ → Context → RunState → Planned → Linked Ran
 run_planned e opener path outer r f =
     run_blocks e opener path outer f f.plan.order none_done r >>= λ ended.
-    answered (Ok (record { exports = exports_at ended.0 (place_of f.blocks (codes "main")); run = ended.1 }))
+    answered (Ok (record { exports = exports_at ended.0 (block_places f.blocks (codes "main")); run = ended.1 }))
 
 -- the text of a theory file
 abbrev pub text_at : Setting → List ℕ → Linked (List ℕ)

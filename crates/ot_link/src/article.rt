@@ -15,13 +15,14 @@ ghost use Rattle.ot_link.specs.Stops.{answered_by};
 ghost use Rattle.ot_link.specs.Answers.{AreWithin, setting_of, Comes, ran_of, EndsAs, AreExportsIn};
 ghost use Rattle.ot_link.specs.Answers.{NamesSymbolIn, HasCause, IsOfArticle, HasFailed};
 ghost use Rattle.ot_link.specs.Lawful.{IsLawfulSession, AreLawfulOnce, IsReady, LeavesExports};
+ghost use Rattle.ot_logic.specs.RanOut.{ran_out};
 
 use crate::fault::LinkFault;
 use crate::setting::Setting;
 use ot_interp::Interp;
 use ot_io::{Files, OpenFault, Source};
 use ot_kernel::Places;
-use ot_logic::Limits;
+use ot_logic::{Limits, Memory};
 use ot_machine::{ArticleFault, Context, Export, Fault, Machine, Session, fresh_law, lines_law};
 use std::alloc::Global;
 
@@ -129,7 +130,7 @@ fn run_named<S: Source>(
         Ok(exports) => Ok(exports),
         Err(ArticleFault::At { line, fault }) => Err(LinkFault::Article { path, line, fault }),
         Err(ArticleFault::ReadFault) => Err(LinkFault::ReadFault { path }),
-        Err(ArticleFault::Memory) => Err(LinkFault::Memory),
+        Err(ArticleFault::Memory(memory)) => Err(LinkFault::Memory(memory)),
     }
 }
 
@@ -147,7 +148,7 @@ fn run_source<S: Source>(
         (run (context_of session.old context.now) (lines_of setting.entry.limits.now.article_bytes bytes)
         (record { article = fresh_article; run = run_of session.old }))) }
     ensures left { LeavesExports NamesSymbolInArticle result session.old session.new }
-    ensures apart { (line : ℕ) → result ≢ Err (ArticleFault.At line Fault.Memory) }
+    ensures apart { (line : ℕ) → result ≢ Err (ArticleFault.At line (Fault.Memory ran_out)) }
     ensures cause { result ≡ Err ArticleFault.ReadFault → CountRose (S.faults source.old) (S.faults source.new) }
     ensures kept { KeepsSource S.folder S.faults S.misses S.at source.old source.new }
 {
@@ -162,10 +163,10 @@ fn run_source<S: Source>(
 
 fn copied(alloc: Global, exports: &[Export]) -> Result<Vec<Export>, ArticleFault>
     ensures copy { IfOk result (λ copy. copy.items ≡ exports.now) }
-    ensures memory { IfErr result (λ e. e ≡ ArticleFault.Memory) }
+    ensures memory { IfErr result (λ e. e ≡ ArticleFault.Memory ran_out) }
 {
     match Vec::from_slice(alloc, exports) {
         Ok(copy) => Ok(copy),
-        Err(_) => Err(ArticleFault::Memory),
+        Err(refused) => Err(ArticleFault::Memory(Memory::from(refused))),
     }
 }

@@ -1,3 +1,5 @@
+ghost use Rattle.ot_logic.specs.RanOut.{ran_out};
+
 use ot_blocks::StructureFault;
 use ot_logic::Memory as NoMemory;
 use ot_machine::Fault;
@@ -37,17 +39,17 @@ pub enum LinkFault {
     ReadFault {
         path: String,
     },
-    Memory,
+    Memory(NoMemory),
 }
 
 impl From<NoMemory> for LinkFault {
     ghost use Rattle.std.specs.Prelude.{◌≡◌};
     ghost use Rattle.ot_link.specs.declared.fault.LinkFault.TheVariants.{Memory};
 
-    ghost from_gives = { λ _ r. r ≡ Memory };
+    ghost from_gives = { λ _ r. r ≡ Memory ran_out };
 
-    fn from(_: NoMemory) -> LinkFault {
-        LinkFault::Memory
+    fn from(memory: NoMemory) -> LinkFault {
+        LinkFault::Memory(memory)
     }
 }
 
@@ -55,10 +57,10 @@ impl From<AllocError> for LinkFault {
     ghost use Rattle.std.specs.Prelude.{◌≡◌};
     ghost use Rattle.ot_link.specs.declared.fault.LinkFault.TheVariants.{Memory};
 
-    ghost from_gives = { λ _ r. r ≡ Memory };
+    ghost from_gives = { λ _ r. r ≡ Memory ran_out };
 
-    fn from(_: AllocError) -> LinkFault {
-        LinkFault::Memory
+    fn from(refused: AllocError) -> LinkFault {
+        LinkFault::Memory(NoMemory::from(refused))
     }
 }
 
@@ -66,9 +68,9 @@ impl<T: Drop> From<AllocFailed<T>> for LinkFault {
     ghost use Rattle.std.specs.Prelude.{◌≡◌};
     ghost use Rattle.ot_link.specs.declared.fault.LinkFault.TheVariants.{Memory};
 
-    ghost from_gives = { λ _ r. r ≡ Memory };
+    ghost from_gives = { λ _ r. r ≡ Memory ran_out };
 
-    fn from(_: AllocFailed<T>) -> LinkFault {
-        LinkFault::Memory
+    fn from(refused: AllocFailed<T>) -> LinkFault {
+        LinkFault::Memory(NoMemory::from(refused))
     }
 }

@@ -50,7 +50,7 @@ pub(crate) fn theory_text<F: Files>(
                 let path = String::from_str(alloc, path)?;
                 Err(LinkFault::ReadFault { path })
             }
-            Err(ReadFault::Memory) => Err(LinkFault::Memory),
+            Err(ReadFault::Memory(memory)) => Err(LinkFault::Memory(memory)),
         },
         Err(OpenFault::Missing) => {
             let path = String::from_str(alloc, path)?;
@@ -81,7 +81,7 @@ pub(crate) fn theory_at<'a>(
             let path = String::from_str(alloc, path)?;
             Err(LinkFault::Theory { path, line, fault })
         }
-        Err(TheoryError::Memory) => Err(LinkFault::Memory),
+        Err(TheoryError::Memory(memory)) => Err(LinkFault::Memory(memory)),
     }
 }
 
@@ -100,6 +100,6 @@ pub(crate) fn plan_at(alloc: Global, path: &str, blocks: &[Block<'_>]) -> Result
             let path = String::from_str(alloc, path)?;
             Err(LinkFault::Structure { path, line, fault })
         }
-        Err(PlanFault::Memory) => Err(LinkFault::Memory),
+        Err(PlanFault::Memory(memory)) => Err(LinkFault::Memory(memory)),
     }
 }

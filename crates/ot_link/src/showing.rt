@@ -100,7 +100,7 @@ fn add_name(alloc: Global, tag: &Tag<'_>, names: &mut Vec<Name>) -> Result<(), M
             names.push(name)?;
             Ok(())
         }
-        Err(NameFault::Memory) => Err(Memory),
+        Err(NameFault::Memory(memory)) => Err(memory),
         Err(NameFault::Unterminated | NameFault::Trailing) => Ok(()),
     }
 }

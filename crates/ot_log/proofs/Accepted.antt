@@ -2,9 +2,8 @@
 -- take.
 use Rattle.std.specs.Prelude.{◌⊎◌, ◌==◌}
 use Rattle.std.specs.List.{All, AllByRecursion}
-use Rattle.std.proofs.Common.{◌≡◌, ◌<◌, inl, inr, ℕ, suc, true, List, [], ◌∷◌}
-use Rattle.std.proofs.Common.{length, Ok, refl, sym, ap, subst, ◌∙◌, arith}
-use Rattle.std.proofs.lemmas.Bool.Decides.{nat_tests}
+use Rattle.std.proofs.Common.{◌≡◌, ◌<◌, inl, inr, ℕ, true, List, [], ◌∷◌}
+use Rattle.std.proofs.Common.{length, Ok, refl, sym, subst, ◌∙◌, arith}
 use Rattle.std.proofs.lemmas.List.Elements.{All-nil, All-cons}
 use Rattle.ot_logic.specs.Names.{Name}
 use Rattle.ot_logic.specs.Naming.{names}
@@ -14,19 +13,19 @@ use Rattle.ot_logic.specs.Faults.{StackEmpty}
 use Rattle.ot_logic.specs.Answers.{unless}
 use Rattle.ot_logic.specs.declared.command.Cmd.{Cmd}
 use Rattle.ot_logic.specs.declared.command.Cmd.TheVariants as words
-use Rattle.ot_rules.specs.Limits.{AreWellTyped}
+use Rattle.ot_log_rules.specs.Limits.{AreWellTyped}
 use Rattle.ot_trace.specs.Origins.{Origin, Make, Define}
 use Rattle.ot_machine.specs.Objects.{Object, term, theorem}
 use Rattle.ot_machine.specs.Makers.{arity, maker}
 use Rattle.ot_machine.specs.Values.{value, values, value_at, defines, defined_by, definition_arity}
-use Rattle.ot_machine.specs.Meaning.{origin_of}
 use Rattle.ot_machine.specs.declared.session.Session.{Session}
-use Rattle.ot_proof_log.specs.Derived.{makes_theorem}
-use Rattle.ot_proof_log.proofs.Kept.{IsKeptTerm, IsKept}
-use Rattle.ot_proof_log.proofs.KeptObjects.{IsKeptObject}
-use Rattle.ot_proof_log.proofs.Values.{value-kept}
-use Rattle.ot_values.specs.Steps.{Makes, origins_of}
-use Rattle.ot_words.specs.Recording.{HasResult}
+use Rattle.ot_log_law.specs.Derived.{makes_theorem}
+use Rattle.ot_log_law.proofs.Kept.{IsKeptTerm, IsKept}
+use Rattle.ot_log_law.proofs.KeptObjects.{IsKeptObject}
+use Rattle.ot_log_law.proofs.Values.{value-kept}
+use Rattle.ot_log_values.specs.Steps.{Makes, origins_of}
+use Rattle.ot_log_values.proofs.Taking.{values-long, same-number, made-long}
+use Rattle.ot_log_words.specs.Recording.{HasResult}
 use Rattle.ot_log.specs.Keeping.{IsDefinable}
 use Rattle.ot_logic.proofs.Results.{bind-ok, same_Ok, unless-ok}
 
@@ -46,25 +45,6 @@ typed-theorem o q h m =
     record { hyps = all-typed q.hyps k.sequent.hyps; concl = (bool_ty names, k.sequent.concl) }
 
 -- ---- how many operands
-
-values-long : (s : Session) (is : List ℕ) (vs : List Object) → values (origins_of s is) ≡ Ok vs
-    → length vs ≡ length is
-values-long s [] vs h = ap length (sym (same_Ok [] vs h))
-values-long s (i ∷ is) vs h =
-    let (v, p, k) = bind-ok (value (origin_of s i)) _ vs h in
-    let (ws, q, l) = bind-ok (values (origins_of s is)) _ vs k in
-    ap length (sym (same_Ok (v ∷ ws) vs l)) ∙ ap suc (values-long s is ws q)
-
-same-number : (m n : ℕ) → (m == n) ≡ true → m ≡ n
-same-number m n h = grind (arith, nat_tests)
-
-made-long : (s : Session) (w : Cmd) (is : List ℕ) → HasResult (value (Make w (origins_of s is)))
-    → length is ≡ arity (maker w)
-made-long s w is h =
-    let (vs, p, k) = bind-ok (values (origins_of s is)) _ h.0 h.1 in
-    let (u, q, l) = bind-ok (unless StackEmpty (length vs == arity (maker w))) _ h.0 k in
-    sym (values-long s is vs p) ∙ same-number (length vs) (arity (maker w))
-    (unless-ok StackEmpty (length vs == arity (maker w)) u q)
 
 one-or-two : (w : Cmd) → makes_theorem w ≡ true → (arity (maker w) ≡ 1) ⊎ (arity (maker w) ≡ 2)
 one-or-two words.Refl h = inl refl
@@ -92,7 +72,7 @@ few-operands s w is m h = elim (one-or-two w m) [
 
 -- ---- definitions
 
-accepted : (s : Session) (w : Cmd) (is : List ℕ) → IsDefinable (Define w (origins_of s is))
+pub accepted : (s : Session) (w : Cmd) (is : List ℕ) → IsDefinable (Define w (origins_of s is))
     → (ds : List (Definition Name)) × (vs : List Object) × (values (origins_of s is) ≡ Ok vs)
     × HasResult (defines w ds vs)
 accepted s w is h =

@@ -16,17 +16,17 @@ use Rattle.ot_trace.specs.declared.step.Step.TheVariants as step
 use Rattle.ot_machine.specs.Values.{value, values, applied}
 use Rattle.ot_machine.specs.Meaning.{origin_of}
 use Rattle.ot_machine.specs.declared.session.Session.{Session}
-use Rattle.ot_entries.specs.Logged.{write_entry, write_sequents}
+use Rattle.ot_log_records.specs.Logged.{write_entry, write_sequents}
 use Rattle.ot_log.specs.declared.writer.Place.{Place}
-use Rattle.ot_proof_log.specs.Derived.{theorem_entries, definition_entries, read}
-use Rattle.ot_proof_log.specs.Writing.{Written, listed, number_of, numbers_of, mark}
-use Rattle.ot_proof_log.specs.Writing.{put_theorem, put_definition, put_result}
-use Rattle.ot_proof_log.specs.Writing.{result_entry, write, write_entries}
-use Rattle.ot_sheet.specs.Sheets.{Shows, Moves as SheetMoves}
-use Rattle.ot_sheet.specs.declared.sheet.Sheet.{Sheet}
-use Rattle.ot_rules.specs.declared.statement.Statement.{Statement}
-use Rattle.ot_values.specs.Steps.{origins_of}
-use Rattle.ot_words.specs.declared.words.Made.{Made}
+use Rattle.ot_log_law.specs.Derived.{theorem_entries, definition_entries, read}
+use Rattle.ot_log_law.specs.Writing.{Written, listed, number_of, numbers_of, mark}
+use Rattle.ot_log_law.specs.Writing.{put_theorem, put_definition, put_result}
+use Rattle.ot_log_law.specs.Writing.{result_entry, write, write_entries}
+use Rattle.ot_log_page.specs.Sheets.{Shows, Moves as SheetMoves}
+use Rattle.ot_log_page.specs.declared.sheet.Sheet.{Sheet}
+use Rattle.ot_log_rules.specs.declared.statement.Statement.{Statement}
+use Rattle.ot_log_values.specs.Steps.{origins_of}
+use Rattle.ot_log_words.specs.declared.words.Made.{Made}
 use Rattle.ot_log.specs.Keeping.{Holds, IsNumbered, IsWriter, Marks, Moves}
 use Rattle.ot_log.specs.Keeping.{Puts, PutsDefinition, number_in, number_at}
 use Rattle.ot_log.specs.Keeping.{numbers_at}

@@ -1,8 +1,11 @@
 pub mod Valued
 pub mod Placed
+pub mod Numbered
 pub mod Putting
 pub mod Closed
 pub mod Accepted
+pub mod Taken
 pub mod Worked
 pub mod Outcomes
+pub mod Ordered
 pub mod Whole

@@ -4,6 +4,7 @@ use Rattle.std.specs.List.{All}
 use Rattle.std.proofs.Common.{◌≡◌, ◌≢◌, ℕ, suc, ◌<◌, List, [], ◌∷◌}
 use Rattle.std.proofs.Common.{map, length, get_or, slice_get, Option, None}
 use Rattle.std.proofs.Common.{Some, Ok, refl, sym, ap, subst, ◌∙◌, arith}
+use Rattle.std.proofs.lemmas.List.{length-map}
 use Rattle.ot_logic.specs.Names.{Name}
 use Rattle.ot_logic.specs.Naming.{names, name_of}
 use Rattle.ot_logic.specs.Hol.{theorems}
@@ -12,8 +13,8 @@ use Rattle.ot_logic.specs.Answers.{◌>>=◌, some_or}
 use Rattle.ot_logic.specs.declared.command.Cmd.{Cmd}
 use Rattle.ot_logic.proofs.Naming.{name_of-injective}
 use Rattle.ot_logic.proofs.TableLemmas.{Extends-refl}
-use Rattle.ot_rules.specs.Statements.{sequent_at, HasStatement}
-use Rattle.ot_rules.specs.declared.statement.Statement.{Statement}
+use Rattle.ot_log_rules.specs.Statements.{sequent_at, HasStatement}
+use Rattle.ot_log_rules.specs.declared.statement.Statement.{Statement}
 use Rattle.ot_trace.specs.Origins.{Origin, Origins, Define, Outcome, map_origin}
 use Rattle.ot_trace.specs.Trace.{origin_at, origin_of as step_origin}
 use Rattle.ot_trace.specs.declared.step.Step.{Step}
@@ -24,19 +25,23 @@ use Rattle.ot_machine.specs.Objects.{theorem}
 use Rattle.ot_machine.specs.Values.{value, values, definition_of, defines, theorem_of}
 use Rattle.ot_machine.specs.Meaning.{origin_of}
 use Rattle.ot_machine.specs.declared.session.Session.{Session}
-use Rattle.ot_entries.specs.Logged.{count_sequent}
-use Rattle.ot_proof_log.specs.Writing.{Written, mark, add_outcomes, outcomes, put_definition, write_all}
-use Rattle.ot_proof_log.specs.Writing.{write_definition}
-use Rattle.ot_sheet.specs.Sheets.{Moves as SheetMoves}
-use Rattle.ot_sheet.specs.declared.sheet.Sheet.{Sheet}
-use Rattle.ot_values.specs.Steps.{Makes, origins_of}
-use Rattle.ot_words.specs.Recording.{HasResult}
-use Rattle.ot_words.specs.declared.words.Made.{Made}
+use Rattle.ot_log_records.specs.Logged.{count_sequent}
+use Rattle.ot_log_law.specs.Writing.{Written, mark, add_outcomes, outcomes, put_definition, write_all}
+use Rattle.ot_log_law.specs.Writing.{write_definition}
+use Rattle.ot_log_page.specs.Sheets.{Moves as SheetMoves}
+use Rattle.ot_log_page.specs.declared.sheet.Sheet.{Sheet}
+use Rattle.ot_log_values.specs.Steps.{Makes, origins_of}
+use Rattle.ot_log_words.specs.Recording.{HasResult}
+use Rattle.ot_log_words.specs.declared.words.Made.{Made}
 use Rattle.ot_log.specs.Keeping.{AreTheorems, Holds, IsDefinable, IsNumbered}
 use Rattle.ot_log.specs.Keeping.{IsWriter, Marks, Moves, PutsDefinition}
 use Rattle.ot_log.specs.declared.writer.Writer.{Writer}
 use Rattle.ot_log.proofs.Closed.{defined, step-origin}
 use Rattle.ot_log.proofs.Placed.{naming-is, origin-here, number-other, marked-holds, marked-writer, writer-grown}
+use Rattle.ot_article.proofs.Fewer.{definition-less}
+use Rattle.ot_article.proofs.Operands.{given-of}
+use Rattle.ot_log_law.proofs.Defining.{defining-of}
+use Rattle.ot_log_law.proofs.Outcomes.{outcome-values, values-long}
 use Rattle.ot_logic.proofs.Elements.{slice_get-map}
 use Rattle.ot_logic.proofs.Results.{bind-ok, same_Ok, some_or-ok}
 
@@ -166,3 +171,18 @@ define-moves s a b c d w id is ids qs outs e l first p inside o last = λ max x 
     let done = last max (put_definition w os y) (defined s b c w ids qs p inside max y begun) in
     subst (λ o. Holds s max d (write_definition o x)) (sym e)
     (subst (λ l. Holds s max d (add_outcomes l (put_definition w os y))) (sym (ap (outcomes w) (sym e) ∙ o)) done)
+
+-- how many theorems a definition has
+pub outcomes-long : (s : Session) (old new : Writer) (w : Cmd) (ids : List ℕ) (qs : List Statement)
+    → IsDefinable (Define w (origins_of s ids)) → PutsDefinition s old new w ids qs
+    → length qs ≡ length (outcomes w (Define w (origins_of s ids)))
+outcomes-long s old new w ids qs h p =
+    let os = origins_of s ids in
+    let vs = bind-ok (values os) (defines w h.0) h.1.0 h.1.1 in
+    let alone = definition-less [] h.0 (λ z k. absurd k) (Define w os) h.1.0 h.1.1 in
+    let defining = defining-of w h.0 vs.0 h.1.0 (given-of w h.0 vs.0 h.1.0 vs.2) in
+    let have = outcome-values w os h.0 vs.0 h.1.0 defining alone in
+    let same : p.objects ≡ vs.0 = same_Ok p.objects vs.0 (sym p.values_are ∙ vs.1) in
+    let are = p.defined.theorems_are h.0 h.1.0 (ap (defines w h.0) same ∙ vs.2) in
+    sym (length-map qs (sequent_at new.nodes)) ∙ ap length are
+    ∙ sym (values-long (outcomes w (Define w os)) (theorems names h.1.0) have)

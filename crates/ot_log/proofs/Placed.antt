@@ -17,11 +17,11 @@ use Rattle.ot_logic.proofs.Naming.{name_of-injective}
 use Rattle.ot_logic.proofs.TableLemmas.{slice_get-append_left}
 use Rattle.ot_kernel.specs.State.{name_at}
 use Rattle.ot_kernel.proofs.Namings.{name_of-index}
-use Rattle.ot_nodes.specs.Items.{Item}
-use Rattle.ot_nodes.specs.Typing.{AreTypings}
-use Rattle.ot_rules.specs.Statements.{sequent_at, HasStatement}
-use Rattle.ot_rules.specs.declared.statement.Statement.{Statement}
-use Rattle.ot_rules.proofs.Staying.{sequent-stays, still-statement}
+use Rattle.ot_log_nodes.specs.Items.{Item}
+use Rattle.ot_log_nodes.specs.Typing.{AreTypings}
+use Rattle.ot_log_rules.specs.Statements.{sequent_at, HasStatement}
+use Rattle.ot_log_rules.specs.declared.statement.Statement.{Statement}
+use Rattle.ot_log_rules.proofs.Staying.{sequent-stays, still-statement}
 use Rattle.ot_trace.specs.Origins.{Origin, Number, map_origin}
 use Rattle.ot_trace.specs.Trace.{IsStepTable, origin_at}
 use Rattle.ot_written.specs.Same.{same_origin}
@@ -33,16 +33,16 @@ use Rattle.ot_machine.specs.Values.{value}
 use Rattle.ot_machine.specs.Meaning.{origin_of}
 use Rattle.ot_machine.specs.declared.session.Session.{Session}
 use Rattle.ot_machine.proofs.Kept.{origin-agree}
-use Rattle.ot_proof_log.specs.Writing.{Written, number_of, mark}
-use Rattle.ot_sheet.specs.Sheets.{Shows}
-use Rattle.ot_values.specs.Steps.{Makes}
-use Rattle.ot_values.specs.Known.{AreKnown}
-use Rattle.ot_words.specs.Recording.{HasResult}
-use Rattle.ot_words.specs.declared.words.Made.{Made}
-use Rattle.ot_log.specs.Keeping.{IsNumbered, IsPlaced, IsWriter, Holds, Marks, number_in, number_at}
+use Rattle.ot_log_law.specs.Writing.{Written, number_of, mark}
+use Rattle.ot_log_page.specs.Sheets.{Shows}
+use Rattle.ot_log_values.specs.Steps.{Makes}
+use Rattle.ot_log_values.specs.Known.{AreKnown}
+use Rattle.ot_log_words.specs.Recording.{HasResult}
+use Rattle.ot_log_words.specs.declared.words.Made.{Made}
+use Rattle.ot_log.specs.Keeping.{IsNumbered, IsPlaced, IsWriter, Holds, Marks, number_in, number_at, first_place}
 use Rattle.ot_log.specs.declared.writer.Place.{Place}
 use Rattle.ot_log.specs.declared.writer.Writer.{Writer}
-use Rattle.ot_logic.proofs.Elements.{All-slice_get, slice_get-low, slice_get-set_other, slice_get-set_same}
+use Rattle.ot_logic.proofs.Elements.{All-slice_get, slice_get-set_other, slice_get-set_same}
 
 pub get-here : {X : Type 0} (xs : List X) (i : ℕ) (x y : X) → x ≡ get_or xs i x → slice_get xs i ≡ Some y → x ≡ y
 get-here [] i x y p e = absurd (cc)
@@ -157,11 +157,26 @@ number-more p o n (q ∷ ps) = go (same_origin names.same p q.0) (number-more p 
     go true e = refl
     go false e = e
 
-pub number-first : (o : Origin Name) (n : ℕ) (ps : List (Origin Name × ℕ)) → number_of o ps ≡ None
-    → number_of o (ps ++ (o, n) ∷ []) ≡ Some n
-number-first o n ps e = number-more o o n ps ∙ ap (λ r. or_number r (cond (same_origin names.same o o) (Some n) None))
-    e
-    ∙ ap (λ b. cond b (Some n) None) ((origin-tells o o).1 refl)
+abbrev pub or_this : Option ℕ → ℕ → ℕ
+or_this (Some k) n = k
+or_this None n = n
+
+-- an origin keeps its first number
+pub number-here : (o : Origin Name) (n : ℕ) (ps : List (Origin Name × ℕ))
+    → number_of o (ps ++ (o, n) ∷ []) ≡ Some (or_this (number_of o ps) n)
+number-here o n ps =
+    number-more o o n ps
+    ∙ ap (λ b. or_number (number_of o ps) (cond b (Some n) None)) ((origin-tells o o).1 refl) ∙ go (number_of o ps)
+  where
+    go : (r : Option ℕ) → or_number r (Some n) ≡ Some (or_this r n)
+    go None = refl
+    go (Some k) = refl
+
+-- one that was there stays
+pub number-stays : (p o : Origin Name) (n k : ℕ) (ps : List (Origin Name × ℕ)) → number_of p ps ≡ Some k
+    → number_of p (ps ++ (o, n) ∷ []) ≡ Some k
+number-stays p o n k ps e =
+    number-more p o n ps ∙ ap (λ r. or_number r (cond (same_origin names.same p o) (Some n) None)) e
 
 pub number-other : (p o : Origin Name) (n : ℕ) (ps : List (Origin Name × ℕ)) → p ≢ o
     → number_of p (ps ++ (o, n) ∷ []) ≡ number_of p ps
@@ -181,16 +196,29 @@ number-other p o n ps d = number-more p o n ps ∙ ap (λ b. or_number (number_o
 module _ (s : Session) (num : IsNumbered s) (old new : Writer) (w : IsWriter s old) (id : ℕ) (m : Made)
     (k : Marks id m old new)
     (inside : id < length s.trace) where
+  abbrev next : Place
+  next = record { number = m.number; at = length old.statements.items }
+
   abbrev place : Place
-  place = record { number = m.number; at = length old.statements.items }
+  place = first_place (slice_get old.places.items id) next
+
+  -- the old one, or the next
+  which-place : (r : Option (Option Place)) → (r ≡ Some (Some (first_place r next))) ⊎ (first_place r next ≡ next)
+  which-place None = inr refl
+  which-place (Some None) = inr refl
+  which-place (Some (Some p)) = inl refl
 
   marked-places : (i : ℕ) (p : Place) → slice_get (set old.places.items id (Some place)) i ≡ Some (Some p)
-      → ((i ≡ id) × (place ≡ p)) ⊎ (slice_get old.places.items i ≡ Some (Some p))
+      → ((i ≡ id) × (next ≡ p)) ⊎ (slice_get old.places.items i ≡ Some (Some p))
   marked-places i p h = elim (cases_eq i id) [
-    | inl e ↦ (let low : id < length old.places.items = slice_get-low old.places.items id None k.first in
-        let q : Some (Some place) ≡ Some (Some p) = sym (slice_get-set_same old.places.items id (Some place) low)
+    | inl e ↦ (let q : Some (Some place) ≡ Some (Some p) =
+        sym (slice_get-set_same old.places.items id (Some place) k.inside)
         ∙ ap (slice_get (set old.places.items id (Some place))) (sym e) ∙ h in
-        let r : place ≡ p = cc in inl (e, r))
+        let r : place ≡ p = cc in
+        elim (which-place (slice_get old.places.items id)) [
+          | inl a ↦ inr (ap (slice_get old.places.items) e ∙ a ∙ ap (λ z. Some (Some z)) r)
+          | inr a ↦ inl (e, sym a ∙ r)
+        ])
     | inr n ↦ inr (sym (slice_get-set_other old.places.items id i (Some place) n) ∙ h)
   ]
 
@@ -221,7 +249,7 @@ module _ (s : Session) (num : IsNumbered s) (old new : Writer) (w : IsWriter s o
         makes = h.makes;
       }
 
-      at-new : (i : ℕ) (p : Place) → i ≡ id → place ≡ p
+      at-new : (i : ℕ) (p : Place) → i ≡ id → next ≡ p
           → IsPlaced s old.nodes (old.statements.items ++ m.statement ∷ []) i p
       at-new i p e q = subst (λ p. IsPlaced s old.nodes (old.statements.items ++ m.statement ∷ []) i p) q (record {
         within = long-push old.statements.items m.statement;
@@ -235,13 +263,14 @@ module _ (s : Session) (num : IsNumbered s) (old new : Writer) (w : IsWriter s o
     log = subst (λ z. Shows z max new.sheet x.log) (sym k.nodes)
         (subst (λ z. Shows old.nodes max z x.log) (sym k.sheet) h.log);
     numbers = λ i l. elim (cases_eq i id) [
-      | inl e ↦ (let none : number_of (origin_of s id) x.theorems ≡ None = h.numbers id inside
-          ∙ ap number_in k.first in
-          let low : id < length old.places.items = slice_get-low old.places.items id None k.first in
+      | inl e ↦ (let here : number_of (origin_of s id) x.theorems ≡ number_in (slice_get old.places.items id) =
+          h.numbers id inside in
           ap (λ j. number_of (origin_of s j) (x.theorems ++ (origin_of s id, m.number) ∷ [])) e
-          ∙ number-first (origin_of s id) m.number x.theorems none
+          ∙ number-here (origin_of s id) m.number x.theorems
+          ∙ ap (λ r. Some (or_this r m.number)) here
+          ∙ first-number (slice_get old.places.items id)
           ∙ sym (ap (λ l. number_at l i) k.places ∙ ap (number_at (set old.places.items id (Some place))) e
-          ∙ ap number_in (slice_get-set_same old.places.items id (Some place) low)))
+          ∙ ap number_in (slice_get-set_same old.places.items id (Some place) k.inside)))
       | inr n ↦ number-other (origin_of s i) (origin_of s id) m.number x.theorems
           (λ e. n (steps-same s num i id l inside e))
           ∙ h.numbers i l
@@ -249,6 +278,12 @@ module _ (s : Session) (num : IsNumbered s) (old new : Writer) (w : IsWriter s o
           ∙ ap number_in (slice_get-set_other old.places.items id i (Some place) n))
     ];
   }
+    where
+      first-number : (r : Option (Option Place)) → Some (or_this (number_in r) m.number)
+          ≡ Some (first_place r next).number
+      first-number None = refl
+      first-number (Some None) = refl
+      first-number (Some (Some p)) = refl
 
 -- ---- a statement that is read at a place, in a table that grew since
 

@@ -8,13 +8,13 @@ use Rattle.ot_logic.specs.Answers.{◌>>=◌}
 use Rattle.ot_logic.proofs.TableLemmas.{Extends-trans}
 use Rattle.ot_logic.specs.declared.command.Cmd.{Cmd}
 use Rattle.ot_logic.specs.declared.command.Cmd.TheVariants as words
-use Rattle.ot_nodes.specs.Items.{Item, name_at, term_at}
-use Rattle.ot_nodes.specs.Changing.{variable_at, type_map, term_map}
-use Rattle.ot_nodes.specs.Typing.{AreTypings}
-use Rattle.ot_nodes.specs.declared.node.VariableNode.{VariableNode}
-use Rattle.ot_nodes.specs.declared.table.typing.Typings.{Typings}
-use Rattle.ot_rules.specs.Statements.{terms_at}
-use Rattle.ot_rules.specs.declared.statement.Statement.{Statement}
+use Rattle.ot_log_nodes.specs.Items.{Item, name_at, term_at}
+use Rattle.ot_log_nodes.specs.Changing.{variable_at, type_map, term_map}
+use Rattle.ot_log_nodes.specs.Typing.{AreTypings}
+use Rattle.ot_log_nodes.specs.declared.node.VariableNode.{VariableNode}
+use Rattle.ot_log_nodes.specs.declared.table.typing.Typings.{Typings}
+use Rattle.ot_log_rules.specs.Statements.{terms_at}
+use Rattle.ot_log_rules.specs.declared.statement.Statement.{Statement}
 use Rattle.ot_trace.specs.Origins.{Make, NoOrigins, MoreOrigins}
 use Rattle.ot_machine.specs.Objects.{Object, Objects, list, name, variable, term, theorem}
 use Rattle.ot_machine.specs.DefinitionLists.{pairs_of}
@@ -25,18 +25,18 @@ use Rattle.ot_machine.specs.Values.{value, values, applied}
 use Rattle.ot_machine.specs.Meaning.{origin_of}
 use Rattle.ot_machine.specs.declared.session.Session.{Session}
 use Rattle.ot_machine.proofs.ObjectKinds.{list-is}
-use Rattle.ot_proof_log.specs.Writing.{listed}
-use Rattle.ot_sheet.specs.declared.sheet.Sheet.{Sheet}
-use Rattle.ot_values.specs.Steps.{Makes, IsNameOf, IsVariableOf, IsTermOf, origins_of}
-use Rattle.ot_values.specs.Lists.{AreNamesOf, AreTermsOf, ArePairsOf, AreMapsOf}
-use Rattle.ot_rules.specs.Definitions.{names_at, pairs_at}
-use Rattle.ot_sheet.proofs.Adding.{shows-grown}
-use Rattle.ot_values.specs.Known.{AreKnown}
-use Rattle.ot_values.specs.declared.values.Values.{Values}
-use Rattle.ot_values.proofs.Later.{known-later}
-use Rattle.ot_words.specs.Recording.{HasResult, Records, Defined}
-use Rattle.ot_words.specs.declared.words.Made.{Made}
-use Rattle.ot_words.proofs.Recorded.{records-later}
+use Rattle.ot_log_law.specs.Writing.{listed}
+use Rattle.ot_log_page.specs.declared.sheet.Sheet.{Sheet}
+use Rattle.ot_log_values.specs.Steps.{Makes, IsNameOf, IsVariableOf, IsTermOf, origins_of}
+use Rattle.ot_log_values.specs.Lists.{AreNamesOf, AreTermsOf, ArePairsOf, AreMapsOf}
+use Rattle.ot_log_rules.specs.Definitions.{names_at, pairs_at}
+use Rattle.ot_log_page.proofs.Adding.{shows-grown}
+use Rattle.ot_log_values.specs.Known.{AreKnown}
+use Rattle.ot_log_values.specs.declared.values.Values.{Values}
+use Rattle.ot_log_values.proofs.Later.{known-later}
+use Rattle.ot_log_words.specs.Recording.{HasResult, Records, Defined}
+use Rattle.ot_log_words.specs.declared.words.Made.{Made}
+use Rattle.ot_log_words.proofs.Recorded.{records-later}
 use Rattle.ot_log.specs.Keeping.{IsWriter, Puts, PutsDefinition, number_at, numbers_at}
 use Rattle.ot_log.specs.declared.writer.Place.{Place}
 use Rattle.ot_log.specs.declared.writer.Writer.{Writer}

@@ -9,9 +9,9 @@ use Rattle.ot_machine.specs.Objects.{Object, Objects, list}
 use Rattle.ot_machine.specs.Places.{as_list}
 use Rattle.ot_machine.specs.Makers.{maker}
 use Rattle.ot_machine.specs.Values.{value, values, applied}
-use Rattle.ot_values.specs.Steps.{Makes}
-use Rattle.ot_values.specs.Lists.{ReadsAs}
-use Rattle.ot_words.specs.Recording.{HasResult}
+use Rattle.ot_log_values.specs.Steps.{Makes}
+use Rattle.ot_log_values.specs.Lists.{ReadsAs}
+use Rattle.ot_log_words.specs.Recording.{HasResult}
 use Rattle.ot_logic.proofs.Results.{bind-ok, same_Ok}
 
 pub has-values : (w : Cmd) (os : Origins Name) → HasResult (value (Make w os)) → HasResult (values os)

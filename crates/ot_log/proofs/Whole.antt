@@ -26,7 +26,6 @@ use Rattle.ot_written.proofs.Renaming.{origin-injective}
 use Rattle.ot_written.proofs.Same.{same-origin-law}
 use Rattle.ot_write.specs.Bytes.{AreRootsInside, roots_at}
 use Rattle.ot_write.specs.Emitting.{same}
-use Rattle.ot_machine.specs.Objects.{theorem}
 use Rattle.ot_machine.specs.Lawful.{IsLawfulRun, IsLawfulExport, Basis}
 use Rattle.ot_machine.specs.Rows.{definitions_of}
 use Rattle.ot_machine.specs.States.{Export, Made, RunState}
@@ -34,10 +33,10 @@ use Rattle.ot_machine.specs.Writable.{IsWritable}
 use Rattle.ot_machine.specs.Meaning.{origin_of, export_of, made_of, run_of, IsExportIn}
 use Rattle.ot_machine.specs.declared.session.Session.{Session}
 use Rattle.ot_machine.specs.declared.machine.Export as code
-use Rattle.ot_entries.specs.Bytes.{bytes_of}
-use Rattle.ot_proof_log.specs.Checked.{run_log, IsLogOf, RunLogLaw}
-use Rattle.ot_proof_log.specs.Writing.{Written, log, write, write_definition}
-use Rattle.ot_proof_log.specs.Writing.{write_definitions, write_results, put_result}
+use Rattle.ot_log_records.specs.Bytes.{bytes_of}
+use Rattle.ot_log_law.specs.Checked.{export_roots, origins_made, run_log, IsLogOf, RunLogLaw}
+use Rattle.ot_log_law.specs.Writing.{Written, log, write, write_definition}
+use Rattle.ot_log_law.specs.Writing.{write_definitions, write_results, put_result}
 use Rattle.ot_log.specs.Keeping.{IsDefinable, IsNumbered}
 use Rattle.ot_minimise.specs.Minimised.{roots_in}
 use Rattle.ot_log.specs.Logs.{AreLawful, HasProof, Writes, steps_log}
@@ -100,7 +99,7 @@ pub lawful-proofs : (s : Session) (b : Basis) (es : List code.Export) → All (I
 lawful-proofs s b [] h = All-nil (HasProof s)
 lawful-proofs s b (e ∷ es) h =
     All-cons (HasProof s) e es (
-      theorem (export_of s e).sequent,
+      (export_of s e).sequent,
       (All-head (IsLawfulExport b) (export_of s e) (map (export_of s) es) h).proved.value_is,
     )
     (lawful-proofs s b es (All-tail (IsLawfulExport b) (export_of s e) (map (export_of s) es) h))
@@ -164,17 +163,23 @@ module _ (s : Session) (num : IsNumbered s) where
       let more = exports-are es (All-tail (IsExportIn s) e es h) in
       λ z. record { theorem = a z; list = b z; term = c z } ∷ more z
 
+  pub tops-are : (es : List code.Export) → map (λ e. origin_of s e.theorem) es
+      ≡ map (λ (e : Export). e.roots.theorem) (map (export_of s) es)
+  tops-are [] = refl
+  tops-are (e ∷ es) = ap (λ l. origin_of s e.theorem ∷ l) (tops-are es)
+
   theorems-are : (es : List code.Export) → map (λ e. origin_of s e.theorem) es
       ≡ map (λ e. e.theorem) (map (λ e. e.roots) (map (export_of s) es))
   theorems-are [] = refl
   theorems-are (e ∷ es) = ap (λ l. origin_of s e.theorem ∷ l) (theorems-are es)
 
-  pub log-is : (es : List code.Export) (needed : List ℕ) → All (IsExportIn s) es
+  pub needed-is : (es : List code.Export) (needed : List ℕ) → All (IsExportIn s) es
       → IsPart needed s.definition_steps.items
       → map (origin_at s.trace) needed ≡ needed_definitions same (roots_of (map (roots_at s.trace) (map roots_in es)))
       (map (origin_at s.trace) s.definition_steps.items)
-      → steps_log s needed es ≡ run_log (run_of s) (map (export_of s) es)
-  log-is es needed h part e =
+      → map (origin_of s) needed
+      ≡ needed_definitions (same_origin names.same) (export_roots (map (export_of s) es)) (origins_made (run_of s))
+  needed-is es needed h part e =
       let steps = s.definition_steps.items in
       let inside = num.run.definitions in
       let low = All-from_members (λ i. i < length s.trace) needed
@@ -184,10 +189,17 @@ module _ (s : Session) (num : IsNumbered s) where
       ∙ sym (definitions-map naming (same_origin names.same) same tells roots (map (origin_at s.trace) steps)) in
       let rs = sym (roots-map naming (map (roots_at s.trace) (map roots_in es))) ∙ ap roots_of (exports-are es h) in
       let all = steps-are steps inside ∙ made-are s.kernel.definitions steps num.run.each_definition in
+      ds ∙ (λ i. needed_definitions (same_origin names.same) (rs i) (all i))
+
+  pub log-is : (es : List code.Export) (needed : List ℕ) → All (IsExportIn s) es
+      → IsPart needed s.definition_steps.items
+      → map (origin_at s.trace) needed ≡ needed_definitions same (roots_of (map (roots_at s.trace) (map roots_in es)))
+      (map (origin_at s.trace) s.definition_steps.items)
+      → steps_log s needed es ≡ run_log (run_of s) (map (export_of s) es)
+  log-is es needed h part e =
+      let ds = needed-is es needed h part e in
       let ts = theorems-are es in
-      (λ i. bytes_of (log (ds i) (ts i)).log.tokens)
-      ∙ (λ i. bytes_of (log (needed_definitions (same_origin names.same) (rs i) (all i))
-      (map (λ e. e.theorem) (map (λ e. e.roots) (map (export_of s) es)))).log.tokens)
+      λ i. bytes_of (log (ds i) (ts i)).log.tokens
 
 -- ---- its check
 

@@ -13,13 +13,15 @@ use Rattle.ot_trace.specs.Trace.{origin_at, origins_at, origin_of as step_origin
 use Rattle.ot_machine.specs.Values.{value, values}
 use Rattle.ot_machine.specs.Meaning.{origin_of}
 use Rattle.ot_machine.specs.declared.session.Session.{Session}
-use Rattle.ot_proof_log.specs.Derived.{makes_theorem}
-use Rattle.ot_proof_log.specs.Writing.{Written, number_of, once, put_theorem, write, write_all}
+use Rattle.ot_log_law.specs.Derived.{makes_theorem}
+use Rattle.ot_log_law.specs.Writing.{Written, number_of, once, put_theorem, write, write_all}
 use Rattle.ot_write.specs.Emitting.{cost, cost_all}
-use Rattle.ot_values.specs.Steps.{origins_of}
-use Rattle.ot_words.specs.Recording.{HasResult}
+use Rattle.ot_log_values.specs.Steps.{origins_of}
+use Rattle.ot_log_words.specs.Recording.{HasResult}
 use Rattle.ot_log.specs.Keeping.{Holds, Moves, number_at}
-use Rattle.ot_log.specs.Working.{AreTasks, IsTask, MakesTheorem, Replaces, close, perform, rest, task_cost, total}
+use Rattle.ot_log.specs.Ready.{HasOperands, HasOutcomes, HaveOutcomes, Knows}
+use Rattle.ot_log.specs.Working.{AreTasks, CanDo, CanDoAll, IsTask, MakesTheorem, Replaces, close, perform}
+use Rattle.ot_log.specs.Working.{rest, task_cost, total}
 use Rattle.ot_log.specs.declared.worklist.Task.{Task}
 use Rattle.ot_log.specs.declared.worklist.Task.TheVariants as task
 use Rattle.ot_log.specs.declared.writer.Writer.{Writer}
@@ -28,6 +30,7 @@ use Rattle.ot_trace.specs.declared.step.Step.{Step}
 use Rattle.ot_trace.specs.declared.step.Step.TheVariants as step
 use Rattle.ot_log.proofs.Valued.{has-values, has-first, has-rest}
 use Rattle.ot_log.proofs.Closed.{step-origin}
+use Rattle.ot_log.proofs.Numbered.{all-outcomes-kept, write-keeps, write_all-there}
 
 -- ---- what leads to the whole: once f is done too
 abbrev pub Leads : Session → Writer → Writer → (Written → Written) → (Written → Written) → Type 0
@@ -48,12 +51,47 @@ module _ (s : Session) where
       ∙ rest-append (reverse (map task.Write is)) (task.Write i ∷ []) x ∙ rest-steps is (write (origin_of s i) x)
 
   pub leads-more : (start mid new : Writer) (whole : Written → Written) (all before after : List Task) (k : Task)
-      → all ≡ before ++ k ∷ [] → Leads s start mid (rest s all) whole → Replaces s mid new before after (perform s k)
+      → all ≡ before ++ k ∷ [] → Leads s start mid (rest s all) whole → Replaces s mid new before after k
       → Leads s start new (rest s after) whole
   leads-more start mid new whole all before after k e h p = λ max x t.
       let a = h max x t in
       let b = p max a.0 a.1 in
       (b.0, b.1, b.2 ∙ sym (rest-append before (k ∷ []) a.0) ∙ ap (λ l. rest s l a.0) (sym e) ∙ a.2)
+
+  -- ---- what can be done
+  can-append : (xs ys : List Task) (x : Written) → CanDoAll s xs (rest s ys x) → CanDoAll s ys x
+      → CanDoAll s (xs ++ ys) x
+  can-append [] ys x h k = k
+  can-append (t ∷ xs) ys x h k =
+      (subst (CanDo s t) (sym (rest-append xs ys x)) h.0, can-append xs ys x h.1 k)
+
+  can-before : (xs : List Task) (t : Task) (x : Written) → CanDoAll s (xs ++ t ∷ []) x
+      → CanDo s t x × CanDoAll s xs (perform s t x)
+  can-before [] t x h = (h.0, tt)
+  can-before (u ∷ xs) t x h =
+      let r = can-before xs t x h.1 in
+      (r.0, (subst (CanDo s u) (rest-append xs (t ∷ []) x) h.0, r.1))
+
+  pub can-steps : (is : List ℕ) (x : Written) → HaveOutcomes x (origins_of s is)
+      → CanDoAll s (reverse (map task.Write is)) x
+  can-steps [] x h = tt
+  can-steps (i ∷ is) x h =
+      let y = write (origin_of s i) x in
+      subst (λ l. CanDoAll s l x) (sym (reverse-append (task.Write i ∷ []) (map task.Write is)))
+      (can-append (reverse (map task.Write is)) (task.Write i ∷ []) x
+      (can-steps is y (all-outcomes-kept x y (write-keeps (origin_of s i) x) (origins_of s is) h.1)) (h.0, tt))
+
+  pub task-ready : (mid : Writer) (all before : List Task) (k : Task) → all ≡ before ++ k ∷ []
+      → Knows s mid (CanDoAll s all) → Knows s mid (CanDo s k)
+  task-ready mid all before k e h =
+      (h.0, h.1, h.2, (can-before before k h.1 (subst (λ l. CanDoAll s l h.1) e h.3)).0)
+
+  pub more-ready : (mid new : Writer) (all before after : List Task) (k : Task) → all ≡ before ++ k ∷ []
+      → Knows s mid (CanDoAll s all) → Replaces s mid new before after k → Knows s new (CanDoAll s after)
+  more-ready mid new all before after k e h p =
+      let b = p h.0 h.1 h.2 in
+      let c = can-before before k h.1 (subst (λ l. CanDoAll s l h.1) e h.3) in
+      (h.0, b.0, b.1, b.3 c.0 c.1)
 
   pub leads-all : (start now : Writer) (whole : Written → Written) (ws : List Task) → ws ≡ []
       → Leads s start now (rest s ws) whole → Moves s start now whole
@@ -148,28 +186,39 @@ module _ (s : Session) where
 
   pub replaces-known : (now : Writer) (ws : List Task) (id n : ℕ) → id < length s.trace
       → number_at now.places.items id ≡ Some n
-      → Replaces s now now ws ws (write (origin_of s id))
-  replaces-known now ws id n low e =
-      λ max x h. (x, h, ap (rest s ws) (write-known (origin_of s id) x n (h.numbers id low ∙ e)))
+      → Replaces s now now ws ws (task.Write id)
+  replaces-known now ws id n low e = λ max x h.
+      let same = write-known (origin_of s id) x n (h.numbers id low ∙ e) in
+      (x, h, ap (rest s ws) same, λ a b. subst (CanDoAll s ws) (sym same) b)
 
-  pub replaces-none : (now : Writer) (ws : List Task) (f : Written → Written) → ((x : Written) → x ≡ f x)
-      → Replaces s now now ws ws f
-  replaces-none now ws f e = λ max x h. (x, h, ap (rest s ws) (e x))
+  pub replaces-none : (now : Writer) (ws : List Task) (id : ℕ) → ((x : Written) → x ≡ write (origin_of s id) x)
+      → Replaces s now now ws ws (task.Write id)
+  replaces-none now ws id e = λ max x h. (x, h, ap (rest s ws) (e x), λ a b. subst (CanDoAll s ws) (sym (e x)) b)
 
   pub replaces-asked : (now : Writer) (old new : List Task) (id : ℕ) (c : Cmd) (ops : List ℕ) → id < length s.trace
       → number_at now.places.items id ≡ None → origin_of s id ≡ Make c (origins_of s ops) → makes_theorem c ≡ true
       → new ≡ (old ++ task.Close id ∷ []) ++ reverse (map task.Write ops)
-      → Replaces s now now old new (write (origin_of s id))
-  replaces-asked now old new id c ops low none e t a = λ max x h. (
-    x,
-    h,
-    ap (λ l. rest s l x) a ∙ rest-append (old ++ task.Close id ∷ []) (reverse (map task.Write ops)) x
-        ∙ ap (rest s (old ++ task.Close id ∷ [])) (rest-steps ops x)
-        ∙ rest-append old (task.Close id ∷ []) (write_all (origins_of s ops) x)
-        ∙ ap (rest s old) (ap (λ o. close o (write_all (origins_of s ops) x)) e
-        ∙ sym (writes x (sym (ap (λ o. number_of o x.theorems) e) ∙ h.numbers id low ∙ none))
-        ∙ sym (ap (λ o. write o x) e)),
-  )
+      → Replaces s now now old new (task.Write id)
+  replaces-asked now old new id c ops low none e t a = λ max x h.
+      let os = origins_of s ops in
+      let asked = reverse (map task.Write ops) in
+      let y = write_all os x in
+      let done : close (origin_of s id) y ≡ write (origin_of s id) x = ap (λ o. close o y) e
+      ∙ sym (writes x (sym (ap (λ o. number_of o x.theorems) e) ∙ h.numbers id low ∙ none))
+      ∙ sym (ap (λ o. write o x) e) in (
+        x,
+        h,
+        ap (λ l. rest s l x) a ∙ rest-append (old ++ task.Close id ∷ []) (reverse (map task.Write ops)) x
+            ∙ ap (rest s (old ++ task.Close id ∷ [])) (rest-steps ops x)
+            ∙ rest-append old (task.Close id ∷ []) (write_all (origins_of s ops) x)
+            ∙ ap (rest s old) done,
+        λ p q.
+            let has : HaveOutcomes x os = subst (HasOutcomes x) e p in
+            subst (λ l. CanDoAll s l x) (sym a) (can-append (old ++ task.Close id ∷ []) asked x
+            (subst (CanDoAll s (old ++ task.Close id ∷ [])) (sym (rest-steps ops x))
+            (can-append old (task.Close id ∷ []) y (subst (CanDoAll s old) (sym done) q)
+            (subst (HasOperands y) (sym e) (write_all-there os x has), tt))) (can-steps ops x has)),
+      )
     where
       writes : (x : Written) → number_of (Make c (origins_of s ops)) x.theorems ≡ None
           → write (Make c (origins_of s ops)) x ≡ put_theorem c (origins_of s ops) (write_all (origins_of s ops) x)

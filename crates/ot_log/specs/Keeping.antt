@@ -5,22 +5,22 @@ use Rattle.ot_logic.specs.Names.{Name}
 use Rattle.ot_logic.specs.Naming.{IsNameTable}
 use Rattle.ot_logic.specs.Trees.{Definition}
 use Rattle.ot_logic.specs.declared.command.Cmd.{Cmd}
-use Rattle.ot_nodes.specs.Items.{Item}
-use Rattle.ot_nodes.specs.Typing.{AreTypings}
-use Rattle.ot_rules.specs.Statements.{sequent_at, HasStatement}
-use Rattle.ot_rules.specs.declared.statement.Statement.{Statement}
+use Rattle.ot_log_nodes.specs.Items.{Item}
+use Rattle.ot_log_nodes.specs.Typing.{AreTypings}
+use Rattle.ot_log_rules.specs.Statements.{sequent_at, HasStatement}
+use Rattle.ot_log_rules.specs.declared.statement.Statement.{Statement}
 use Rattle.ot_trace.specs.Origins.{Origin, Outcome}
 use Rattle.ot_trace.specs.Trace.{IsStepTable}
 use Rattle.ot_machine.specs.Objects.{Object, theorem}
 use Rattle.ot_machine.specs.Values.{values, definition_of}
 use Rattle.ot_machine.specs.Meaning.{origin_of, IsRun}
 use Rattle.ot_machine.specs.declared.session.Session.{Session}
-use Rattle.ot_proof_log.specs.Writing.{Written, listed, number_of}
-use Rattle.ot_sheet.specs.Sheets.{Shows}
-use Rattle.ot_values.specs.Steps.{Makes, origins_of}
-use Rattle.ot_values.specs.Known.{AreKnown}
-use Rattle.ot_words.specs.Recording.{HasResult, Records, Defined}
-use Rattle.ot_words.specs.declared.words.Made.{Made}
+use Rattle.ot_log_law.specs.Writing.{Written, listed, number_of}
+use Rattle.ot_log_page.specs.Sheets.{Shows}
+use Rattle.ot_log_values.specs.Steps.{Makes, origins_of}
+use Rattle.ot_log_values.specs.Known.{AreKnown}
+use Rattle.ot_log_words.specs.Recording.{HasResult, Records, Defined}
+use Rattle.ot_log_words.specs.declared.words.Made.{Made}
 use Rattle.ot_log.specs.declared.writer.Place.{Place}
 use Rattle.ot_log.specs.declared.writer.Writer.{Writer}
 
@@ -90,7 +90,12 @@ pub record PutsDefinition (s : Session) (old new : Writer) (w : Cmd) (ids : List
   pub values_are : values (origins_of s ids) ≡ Ok objects
   pub defined : Defined old.nodes new.nodes old.sheet new.sheet w objects (numbers_at old.places.items ids) qs
 
--- the theorem of a step, which had no place, has one
+-- a theorem keeps its first place
+abbrev pub first_place : Option (Option Place) → Place → Place
+first_place (Some (Some p)) q = p
+first_place _ q = q
+
+-- the theorem of a step has a place
 pub record Marks (id : ℕ) (m : Made) (old new : Writer) : Type 0 where
   pub sheet : new.sheet ≡ old.sheet
   pub nodes : new.nodes ≡ old.nodes
@@ -98,8 +103,9 @@ pub record Marks (id : ℕ) (m : Made) (old new : Writer) : Type 0 where
   pub typings : new.typings ≡ old.typings
   pub statements : new.statements.items ≡ old.statements.items ++ m.statement ∷ []
   pub places : new.places.items
-      ≡ set old.places.items id (Some (record { number = m.number; at = length old.statements.items }))
-  pub first : slice_get old.places.items id ≡ Some None
+      ≡ set old.places.items id (Some (first_place (slice_get old.places.items id)
+      (record { number = m.number; at = length old.statements.items })))
+  pub inside : id < length old.places.items
 
 -- ---- definitions
 

@@ -4,13 +4,12 @@ use Rattle.std.specs.List.{All}
 use Rattle.ot_machine.specs.States.{Export, RunState}
 use Rattle.ot_machine.specs.Lawful.{IsLawfulRun, IsLawfulExport, AreApart, run_basis}
 use Rattle.ot_machine.specs.Writable.{IsWritable}
-use Rattle.ot_machine.specs.Values.{value}
 use Rattle.ot_machine.specs.Meaning.{origin_of}
 use Rattle.ot_machine.specs.declared.machine.Export as code
 use Rattle.ot_machine.specs.declared.session.Session.{Session}
-use Rattle.ot_entries.specs.Bytes.{bytes_of}
-use Rattle.ot_proof_log.specs.Writing.{log}
-use Rattle.ot_words.specs.Recording.{HasResult}
+use Rattle.ot_log_records.specs.Bytes.{bytes_of}
+use Rattle.ot_log_law.specs.Writing.{log}
+use Rattle.ot_log.specs.Ready.{IsProof}
 use Rattle.ot_log.specs.declared.writing.LogRefusal.{LogRefusal}
 use Rattle.ot_log.specs.declared.writing.LogRefusal.TheVariants as refusals
 
@@ -25,13 +24,13 @@ pub record AreLawful (r : RunState) (es : List Export) : Type 0 where
 abbrev pub Writes : Result (Unit {0}) LogRefusal → List ℕ → ℕ → List ℕ → List ℕ → Type 0
 Writes (Ok u) x max old new = (new ≡ old ++ x) × (length x ≤ max)
 Writes (Err refusals.TooLarge) x max old new = (new ≡ old) × (max < length x)
-Writes (Err refusals.Memory) x max old new = new ≡ old
+Writes (Err (refusals.Memory memory)) x max old new = new ≡ old
 
 -- ---- by steps
 
--- the origin of an export's theorem has a value
+-- the value of the origin of an export's theorem is a theorem
 abbrev pub HasProof : Session → code.Export → Type 0
-HasProof s e = HasResult (value (origin_of s e.theorem))
+HasProof s e = IsProof (origin_of s e.theorem)
 
 -- the log of definitions and of the theorems of exports
 abbrev pub steps_log : Session → List ℕ → List code.Export → List ℕ

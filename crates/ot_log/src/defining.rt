@@ -3,24 +3,25 @@ ghost use Rattle.std.specs.Prelude.{◌≡◌, ◌≢◌, ◌<◌, [], ◌∷◌
 ghost use Rattle.std.specs.List.{All};
 ghost use Rattle.ot_logic.specs.declared.command.Cmd.TheVariants as words;
 ghost use Rattle.ot_trace.specs.Origins.{Define, Outcome};
-ghost use Rattle.ot_rules.specs.Statements.{sequent_at, HasStatement};
+ghost use Rattle.ot_log_rules.specs.Statements.{sequent_at, HasStatement};
 ghost use Rattle.ot_machine.specs.Objects as object;
 ghost use Rattle.ot_machine.specs.Meaning.{origin_of};
-ghost use Rattle.ot_machine.specs.Values.{definition_arity, value};
-ghost use Rattle.ot_proof_log.specs.Writing.{add_outcomes, put_result, write, write_definition};
-ghost use Rattle.ot_values.specs.Steps.{Makes, origins_of};
-ghost use Rattle.ot_words.specs.Recording.{HasResult, IsNotRefused};
+ghost use Rattle.ot_machine.specs.Values.{definition_arity};
+ghost use Rattle.ot_log_law.specs.Writing.{add_outcomes, put_result, write, write_definition};
+ghost use Rattle.ot_log_values.specs.Steps.{Makes, origins_of};
+ghost use Rattle.ot_log_words.specs.Recording.{IsNotRefused};
 ghost use Rattle.ot_log.specs.Keeping.{AreTheorems, IsDefinable, IsNumbered, IsWriter, Moves, PutsDefinition};
+ghost use Rattle.ot_log.specs.Ready.{HasOutcomes, HasPremises, HavePlaces, IsProof, Knows};
 
 use crate::writer::Writer;
+use ot_log_format::RecordWord;
+use ot_log_page::Operand;
+use ot_log_rules::{Statement, StepFault};
+use ot_log_values::{name, names};
+use ot_log_words::{Made, write_constant, write_constants, write_type_operator};
 use ot_logic::{Cmd, Memory};
 use ot_machine::Session;
-use ot_records::RecordWord;
-use ot_rules::{Statement, StepFault};
-use ot_sheet::Operand;
 use ot_trace::{Step, StepId};
-use ot_values::{name, names};
-use ot_words::{Made, write_constant, write_constants, write_type_operator};
 use std::alloc::Global;
 
 impl Writer {
@@ -61,11 +62,12 @@ impl Writer {
         requires list { list < length session.now.trace }
         requires a { a < length session.now.trace }
         requires definable { IsDefinable (Define words.DefineConstList (origins_of session.now (list ∷ a ∷ []))) }
+        requires there { HavePlaces session.now self.old.places.items (list ∷ a ∷ []) }
         ensures puts { IfOk result (λ v.
             PutsDefinition session.now self.old self.new words.DefineConstList (list ∷ a ∷ []) v.items) }
         ensures accepts { IsNotRefused result }
     {
-        let p = self.place(session, a)?;
+        let p = self.place(session, a);
         let pairs = self.values.pairs(&mut self.nodes, session, list)?;
         write_constants(
             &mut self.sheet,
@@ -93,11 +95,12 @@ impl Writer {
         requires list { list < length session.now.trace }
         requires a { a < length session.now.trace }
         requires definable { IsDefinable (Define words.DefineTypeOp (origins_of session.now (n ∷ abs ∷ rep ∷ list ∷ a ∷ []))) }
+        requires there { HavePlaces session.now self.old.places.items (n ∷ abs ∷ rep ∷ list ∷ a ∷ []) }
         ensures puts { IfOk result (λ v.
             PutsDefinition session.now self.old self.new words.DefineTypeOp (n ∷ abs ∷ rep ∷ list ∷ a ∷ []) v.items) }
         ensures accepts { IsNotRefused result }
     {
-        let p = self.place(session, a)?;
+        let p = self.place(session, a);
         let operator = name(&mut self.nodes, session, n)?;
         let to = name(&mut self.nodes, session, abs)?;
         let from = name(&mut self.nodes, session, rep)?;
@@ -127,6 +130,7 @@ impl Writer {
         requires operands { All (λ i. i < length session.now.trace) operands.now }
         requires count { length operands.now ≡ definition_arity word }
         requires definable { IsDefinable (Define word (origins_of session.now operands.now)) }
+        requires there { HavePlaces session.now self.old.places.items operands.now }
         ensures puts { IfOk result (λ v.
             PutsDefinition session.now self.old self.new word operands.now v.items) }
         ensures accepts { IsNotRefused result }
@@ -161,6 +165,7 @@ impl Writer {
         requires writer { IsWriter session.now self.old }
         requires inside { id < length session.now.trace }
         requires definable { IsDefinable (origin_of session.now id) }
+        requires ready { Knows session.now self.old (λ x. HasPremises x (origin_of session.now id)) }
         ensures writer { OnOk result (IsWriter session.now self.new) }
         ensures moves { OnOk result (Moves session.now self.old self.new (write_definition (origin_of session.now id))) }
     {
@@ -169,7 +174,7 @@ impl Writer {
                 self.theorems(alloc, session, operands.as_slice())?;
                 let made = match self.put_definition(session, *word, operands.as_slice()) {
                     Ok(made) => made,
-                    Err(StepFault::Memory) => return Err(Memory),
+                    Err(StepFault::Memory(memory)) => return Err(memory),
                     Err(StepFault::BadStep) => unreachable!(),
                 };
                 match word {
@@ -195,16 +200,14 @@ impl Writer {
         requires inside { id < length session.now.trace }
         requires has { All (HasStatement self.old.nodes) theorems.items }
         requires theorems { AreTheorems self.old.nodes (origin_of session.now id) theorems.items }
+        requires count { length theorems.items ≡ 1 }
         ensures writer { OnOk result (IsWriter session.now self.new) }
         ensures moves { OnOk result (Moves session.now self.old self.new
             (add_outcomes (Outcome 1 (origin_of session.now id) ∷ []))) }
     {
-        if theorems.len() != 1 {
-            return Err(Memory);
-        }
         match theorems.pop() {
             Some(theorem) => self.mark_outcome(session, 1, id, theorem),
-            None => Err(Memory),
+            None => unreachable!(),
         }
     }
 
@@ -220,18 +223,16 @@ impl Writer {
         requires inside { id < length session.now.trace }
         requires has { All (HasStatement self.old.nodes) theorems.items }
         requires theorems { AreTheorems self.old.nodes (origin_of session.now id) theorems.items }
+        requires count { length theorems.items ≡ 2 }
         ensures writer { OnOk result (IsWriter session.now self.new) }
         ensures moves { OnOk result (Moves session.now self.old self.new
             (add_outcomes (Outcome 1 (origin_of session.now id) ∷ Outcome 2 (origin_of session.now id) ∷ []))) }
     {
-        if theorems.len() != 2 {
-            return Err(Memory);
-        }
         let Some(second) = theorems.pop() else {
-            return Err(Memory);
+            unreachable!();
         };
         let Some(first) = theorems.pop() else {
-            return Err(Memory);
+            unreachable!();
         };
         self.mark_outcome(session, 1, id, first)?;
         self.mark_outcome(session, 2, id, second)
@@ -277,13 +278,14 @@ impl Writer {
         requires session { IsNumbered session.now }
         requires writer { IsWriter session.now self.old }
         requires inside { id < length session.now.trace }
-        requires value { HasResult (value (origin_of session.now id)) }
+        requires proof { IsProof (origin_of session.now id) }
+        requires ready { Knows session.now self.old (λ x. HasOutcomes x (origin_of session.now id)) }
         ensures writer { OnOk result (IsWriter session.now self.new) }
         ensures moves { OnOk result (Moves session.now self.old self.new
             (λ x. put_result (origin_of session.now id) (write (origin_of session.now id) x))) }
     {
         self.theorem(alloc, session, id)?;
-        let p = self.place(session, id)?;
+        let p = self.place(session, id);
         let operands = [Operand::Sequent(p.number)];
         self.sheet.write(&self.nodes, RecordWord::Result, &operands)
     }

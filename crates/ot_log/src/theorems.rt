@@ -1,24 +1,26 @@
 //! The records of the theorem of a step, whose operands are written.
-ghost use Rattle.std.specs.Prelude.{◌<◌, [], ◌∷◌, length, IfOk, OnOk};
+ghost use Rattle.std.specs.Prelude.{◌≡◌, ◌<◌, [], ◌∷◌, length, true, IfOk, OnOk};
 ghost use Rattle.std.specs.List.{All};
 ghost use Rattle.ot_trace.specs.Origins.{Make};
 ghost use Rattle.ot_logic.specs.declared.command.Cmd.TheVariants as words;
 ghost use Rattle.ot_machine.specs.Meaning.{origin_of};
 ghost use Rattle.ot_machine.specs.Values.{value};
-ghost use Rattle.ot_values.specs.Steps.{origins_of};
-ghost use Rattle.ot_words.specs.Recording.{HasResult, IsNotRefused};
+ghost use Rattle.ot_log_values.specs.Steps.{origins_of};
+ghost use Rattle.ot_log_words.specs.Recording.{HasResult, IsNotRefused};
 ghost use Rattle.ot_log.specs.Keeping.{IsNumbered, IsWriter, Puts, Moves};
-ghost use Rattle.ot_log.specs.Working.{MakesTheorem, close};
+ghost use Rattle.ot_log_law.specs.Derived.{makes_theorem};
+ghost use Rattle.ot_log.specs.Ready.{HasOperands, HavePlaces, Knows};
+ghost use Rattle.ot_log.specs.Working.{MakesTheorem, TakesTerm, TakesTheorems, close};
 
 use crate::writer::Writer;
-use ot_logic::{Cmd, Memory};
-use ot_machine::Session;
-use ot_rules::StepFault;
-use ot_trace::{Step, StepId};
-use ot_words::{
+use ot_log_rules::StepFault;
+use ot_log_words::{
     Made, write_abs_thm, write_axiom, write_of_one_term, write_of_theorems, write_subst,
     write_symmetric,
 };
+use ot_logic::{Cmd, Memory};
+use ot_machine::Session;
+use ot_trace::{Step, StepId};
 use std::alloc::Global;
 
 impl Writer {
@@ -28,6 +30,7 @@ impl Writer {
         requires writer { IsWriter session.now self.old }
         requires a { a < length session.now.trace }
         requires value { HasResult (value (Make word (origins_of session.now (a ∷ [])))) }
+        requires takes { TakesTerm word }
         ensures puts { IfOk result (Puts session.now self.old self.new word (a ∷ [])) }
         ensures accepts { IsNotRefused result }
     {
@@ -40,10 +43,11 @@ impl Writer {
         requires writer { IsWriter session.now self.old }
         requires a { a < length session.now.trace }
         requires value { HasResult (value (Make words.Sym (origins_of session.now (a ∷ [])))) }
+        requires there { HavePlaces session.now self.old.places.items (a ∷ []) }
         ensures puts { IfOk result (Puts session.now self.old self.new words.Sym (a ∷ [])) }
         ensures accepts { IsNotRefused result }
     {
-        let p = self.place(session, a)?;
+        let p = self.place(session, a);
         write_symmetric(
             &mut self.sheet,
             &mut self.nodes,
@@ -65,11 +69,13 @@ impl Writer {
         requires a { a < length session.now.trace }
         requires b { b < length session.now.trace }
         requires value { HasResult (value (Make word (origins_of session.now (a ∷ b ∷ [])))) }
+        requires there { HavePlaces session.now self.old.places.items (a ∷ b ∷ []) }
+        requires takes { TakesTheorems word }
         ensures puts { IfOk result (Puts session.now self.old self.new word (a ∷ b ∷ [])) }
         ensures accepts { IsNotRefused result }
     {
-        let p = self.place(session, a)?;
-        let q = self.place(session, b)?;
+        let p = self.place(session, a);
+        let q = self.place(session, b);
         write_of_theorems(
             &mut self.sheet,
             &mut self.nodes,
@@ -87,10 +93,11 @@ impl Writer {
         requires v { v < length session.now.trace }
         requires a { a < length session.now.trace }
         requires value { HasResult (value (Make words.AbsThm (origins_of session.now (v ∷ a ∷ [])))) }
+        requires there { HavePlaces session.now self.old.places.items (v ∷ a ∷ []) }
         ensures puts { IfOk result (Puts session.now self.old self.new words.AbsThm (v ∷ a ∷ [])) }
         ensures accepts { IsNotRefused result }
     {
-        let p = self.place(session, a)?;
+        let p = self.place(session, a);
         let variable = self.values.variable(&mut self.nodes, session, v)?;
         write_abs_thm(
             &mut self.sheet,
@@ -140,10 +147,11 @@ impl Writer {
         requires list { list < length session.now.trace }
         requires a { a < length session.now.trace }
         requires value { HasResult (value (Make words.Subst (origins_of session.now (list ∷ a ∷ [])))) }
+        requires there { HavePlaces session.now self.old.places.items (list ∷ a ∷ []) }
         ensures puts { IfOk result (Puts session.now self.old self.new words.Subst (list ∷ a ∷ [])) }
         ensures accepts { IsNotRefused result }
     {
-        let p = self.place(session, a)?;
+        let p = self.place(session, a);
         let (types, terms) = self.values.maps(&mut self.nodes, session, list)?;
         write_subst(
             alloc,
@@ -163,6 +171,8 @@ impl Writer {
         requires writer { IsWriter session.now self.old }
         requires a { a < length session.now.trace }
         requires value { HasResult (value (Make word (origins_of session.now (a ∷ [])))) }
+        requires there { HavePlaces session.now self.old.places.items (a ∷ []) }
+        requires makes { makes_theorem word ≡ true }
         ensures puts { IfOk result (Puts session.now self.old self.new word (a ∷ [])) }
         ensures accepts { IsNotRefused result }
     {
@@ -186,6 +196,8 @@ impl Writer {
         requires a { a < length session.now.trace }
         requires b { b < length session.now.trace }
         requires value { HasResult (value (Make word (origins_of session.now (a ∷ b ∷ [])))) }
+        requires there { HavePlaces session.now self.old.places.items (a ∷ b ∷ []) }
+        requires makes { makes_theorem word ≡ true }
         ensures puts { IfOk result (Puts session.now self.old self.new word (a ∷ b ∷ [])) }
         ensures accepts { IsNotRefused result }
     {
@@ -211,6 +223,8 @@ impl Writer {
         requires some { 0 < length operands.now }
         requires few { length operands.now < 3 }
         requires value { HasResult (value (Make word (origins_of session.now operands.now))) }
+        requires there { HavePlaces session.now self.old.places.items operands.now }
+        requires makes { makes_theorem word ≡ true }
         ensures puts { IfOk result (Puts session.now self.old self.new word operands.now) }
         ensures accepts { IsNotRefused result }
     {
@@ -233,6 +247,7 @@ impl Writer {
         requires inside { id < length session.now.trace }
         requires makes { MakesTheorem (origin_of session.now id) }
         requires value { HasResult (value (origin_of session.now id)) }
+        requires ready { Knows session.now self.old (λ x. HasOperands x (origin_of session.now id)) }
         ensures writer { OnOk result (IsWriter session.now self.new) }
         ensures moves { OnOk result (Moves session.now self.old self.new (close (origin_of session.now id))) }
     {
@@ -240,7 +255,7 @@ impl Writer {
             Step::Make(word, operands) => {
                 let made = match self.put(alloc, session, *word, operands.as_slice()) {
                     Ok(made) => made,
-                    Err(StepFault::Memory) => return Err(Memory),
+                    Err(StepFault::Memory(memory)) => return Err(memory),
                     Err(StepFault::BadStep) => unreachable!(),
                 };
                 self.mark(id, made)

@@ -3,12 +3,14 @@ ghost use Rattle.std.specs.Prelude.{◌≡◌, ◌<◌, ◌+◌, ◌++◌, [], �
 ghost use Rattle.std.specs.List.{All};
 ghost use Rattle.ot_machine.specs.Meaning.{origin_of};
 ghost use Rattle.ot_machine.specs.Values.{value, values};
-ghost use Rattle.ot_proof_log.specs.Derived.{makes_theorem};
-ghost use Rattle.ot_proof_log.specs.Writing.{Written, write, write_all};
-ghost use Rattle.ot_values.specs.Steps.{origins_of};
-ghost use Rattle.ot_words.specs.Recording.{HasResult};
+ghost use Rattle.ot_log_law.specs.Derived.{makes_theorem};
+ghost use Rattle.ot_log_law.specs.Writing.{Written, write, write_all};
+ghost use Rattle.ot_log_values.specs.Steps.{origins_of};
+ghost use Rattle.ot_log_words.specs.Recording.{HasResult};
 ghost use Rattle.ot_log.specs.Keeping.{IsNumbered, IsWriter, Moves, number_at};
-ghost use Rattle.ot_log.specs.Working.{AreTasks, IsTask, IsTheoremStep, Replaces, perform, rest, task_cost, total};
+ghost use Rattle.ot_log.specs.Ready.{HasOutcomes, HaveOutcomes, Knows};
+ghost use Rattle.ot_log.specs.Working.{AreTasks, CanDo, CanDoAll, IsTask, IsTheoremStep, Replaces, rest};
+ghost use Rattle.ot_log.specs.Working.{task_cost, total};
 ghost use Rattle.ot_log.specs.declared.worklist.Task.TheVariants as task;
 
 use crate::writer::Writer;
@@ -36,6 +38,7 @@ impl Writer {
         requires writer { IsWriter session.now self.old }
         requires inside { id < length session.now.trace }
         requires value { HasResult (value (origin_of session.now id)) }
+        requires ready { Knows session.now self.old (λ x. HasOutcomes x (origin_of session.now id)) }
         ensures writer { OnOk result (IsWriter session.now self.new) }
         ensures moves { OnOk result (Moves session.now self.old self.new (write (origin_of session.now id))) }
     {
@@ -55,6 +58,7 @@ impl Writer {
         requires writer { IsWriter session.now self.old }
         requires inside { All (λ i. i < length session.now.trace) ids.now }
         requires values { HasResult (values (origins_of session.now ids.now)) }
+        requires ready { Knows session.now self.old (λ x. HaveOutcomes x (origins_of session.now ids.now)) }
         ensures writer { OnOk result (IsWriter session.now self.new) }
         ensures moves { OnOk result (Moves session.now self.old self.new (write_all (origins_of session.now ids.now))) }
     {
@@ -68,6 +72,7 @@ impl Writer {
         requires session { IsNumbered session.now }
         requires writer { IsWriter session.now self.old }
         requires work { AreTasks session.now work.items }
+        requires ready { Knows session.now self.old (CanDoAll session.now work.items) }
         ensures writer { OnOk result (IsWriter session.now self.new) }
         ensures moves { OnOk result (Moves session.now self.old self.new (rest session.now work.items)) }
     {
@@ -87,11 +92,11 @@ impl Writer {
         requires session { IsNumbered session.now }
         requires writer { IsWriter session.now self.old }
         requires task { IsTask session.now task }
+        requires ready { Knows session.now self.old (CanDo session.now task) }
         requires work { AreTasks session.now work.old.items }
         ensures writer { OnOk result (IsWriter session.now self.new) }
         ensures work { OnOk result (AreTasks session.now work.new.items) }
-        ensures moves { OnOk result (Replaces session.now self.old self.new work.old.items work.new.items
-            (perform session.now task)) }
+        ensures moves { OnOk result (Replaces session.now self.old self.new work.old.items work.new.items task) }
         ensures cheaper { OnOk result (total session.now work.new.items
             < total session.now work.old.items + task_cost session.now task) }
     {
@@ -109,7 +114,7 @@ impl Writer {
         requires work { AreTasks session.now work.old.items }
         ensures work { OnOk result (AreTasks session.now work.new.items) }
         ensures moves { OnOk result (Replaces session.now self.now self.now work.old.items work.new.items
-            (write (origin_of session.now id))) }
+            (task.Write id)) }
         ensures cheaper { OnOk result (total session.now work.new.items
             < total session.now work.old.items + task_cost session.now (task.Write id)) }
     {
@@ -127,7 +132,7 @@ impl Writer {
         requires work { AreTasks session.now work.old.items }
         ensures work { OnOk result (AreTasks session.now work.new.items) }
         ensures moves { OnOk result (Replaces session.now self.now self.now work.old.items work.new.items
-            (write (origin_of session.now id))) }
+            (task.Write id)) }
         ensures cheaper { OnOk result (total session.now work.new.items
             < total session.now work.old.items + task_cost session.now (task.Write id)) }
     {

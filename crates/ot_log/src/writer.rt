@@ -1,17 +1,18 @@
 //! The writer: the log so far, and where in it the theorems of steps are.
-ghost use Rattle.std.specs.Prelude.{◌≡◌, ◌<◌, ◌++◌, [], ◌∷◌, ℕ, length, set, slice_get, Some, None, IfOk, OnOk};
+ghost use Rattle.std.specs.Prelude.{◌≡◌, ◌<◌, ◌++◌, [], ◌∷◌, ℕ, length, set, slice_get, Some, IfOk, OnOk};
 ghost use Rattle.ot_machine.specs.declared.session.Session.{Session as Run};
-ghost use Rattle.ot_proof_log.specs.Writing.{nothing_written};
-ghost use Rattle.ot_log.specs.Keeping.{Holds, IsPlaced, IsWriter, Marks, number_at};
+ghost use Rattle.ot_log_law.specs.Writing.{nothing_written};
+ghost use Rattle.ot_log.specs.Keeping.{Holds, IsPlaced, IsWriter, Marks, first_place, number_at};
+ghost use Rattle.ot_log.specs.Ready.{HasPlace};
 
+use ot_log_nodes::{Nodes, Typings};
+use ot_log_page::Sheet;
+use ot_log_rules::Statement;
+use ot_log_values::Values;
+use ot_log_words::Made;
 use ot_logic::Memory;
 use ot_machine::Session;
-use ot_nodes::{Nodes, Typings};
-use ot_rules::Statement;
-use ot_sheet::Sheet;
 use ot_trace::StepId;
-use ot_values::Values;
-use ot_words::Made;
 use std::alloc::Global;
 
 /// Where the theorem of a step is: its number in the log, and its place among the statements.
@@ -50,15 +51,16 @@ impl Writer {
     }
 
     /// The place of a theorem that was written.
-    pub(crate) fn place(&self, session: &Session, id: StepId) -> Result<Place, Memory>
+    pub(crate) fn place(&self, session: &Session, id: StepId) -> Place
         requires writer { IsWriter session.now self.now }
         requires inside { id < length session.now.trace }
-        ensures at { IfOk result (λ p. slice_get self.now.places.items id ≡ Some (Some p)) }
-        ensures placed { IfOk result (IsPlaced session.now self.now.nodes self.now.statements.items id) }
+        requires there { HasPlace self.now.places.items id }
+        ensures at { slice_get self.now.places.items id ≡ Some (Some result) }
+        ensures placed { IsPlaced session.now self.now.nodes self.now.statements.items id result }
     {
         match self.places[id.index()] {
-            Some(place) => Ok(place),
-            None => Err(Memory),
+            Some(place) => place,
+            None => unreachable!(),
         }
     }
 
@@ -74,20 +76,28 @@ impl Writer {
         }
     }
 
-    /// The theorem of a step, which has no place yet, was written.
+    /// The theorem of a step was written. It keeps its first place.
     pub(crate) fn mark(&mut self, id: StepId, made: Made) -> Result<(), Memory>
         requires inside { id < length self.old.places.items }
         ensures { OnOk result (Marks id made self.old self.new) }
     {
         let at = id.index();
-        if self.places[at].is_some() {
-            return Err(Memory);
-        }
-        self.places[at] = Some(Place {
+        let next = Place {
             number: made.number,
             at: self.statements.len(),
-        });
+        };
+        self.places[at] = Some(first_place(self.places[at], next));
         self.statements.push(made.statement)?;
         Ok(())
+    }
+}
+
+/// The place that a theorem has, which may have one already.
+fn first_place(place: Option<Place>, next: Place) -> Place
+    ensures { result ≡ first_place (Some place) next }
+{
+    match place {
+        Some(first) => first,
+        None => next,
     }
 }

@@ -1,22 +1,24 @@
 //! The proof log of a run.
 ghost use Rattle.std.specs.Prelude.{◌≡◌, ◌<◌, ◌^◌, ℕ, List, length, map, IfOk, OnOk};
-ghost use Rattle.ot_nodes.specs.Items.{Item};
-ghost use Rattle.ot_entries.specs.Logged.{Log};
-ghost use Rattle.ot_entries.specs.Bytes.{bytes_of};
-ghost use Rattle.ot_sheet.specs.Sheets.{Shows};
+ghost use Rattle.ot_log_nodes.specs.Items.{Item};
+ghost use Rattle.ot_log_records.specs.Logged.{Log};
+ghost use Rattle.ot_log_records.specs.Bytes.{bytes_of};
+ghost use Rattle.ot_log_page.specs.Sheets.{Shows};
 ghost use Rattle.std.specs.List.{All};
 ghost use Rattle.ot_machine.specs.Meaning.{export_of, origin_of, run_of, IsExportIn, IsRun};
-ghost use Rattle.ot_proof_log.specs.Checked.{run_log, IsLogOf};
+ghost use Rattle.ot_log_law.specs.Checked.{run_log, IsLogOf};
 ghost use Rattle.ot_log.specs.Logs.{AreLawful, HasProof, Writes, steps_log};
 ghost use Rattle.ot_log.specs.Keeping.{Holds, IsDefinable, IsNumbered};
-ghost use Rattle.ot_proof_log.specs.Writing.{log};
+ghost use Rattle.ot_log.specs.Ready.{CanDefine, CanResult};
+ghost use Rattle.ot_log_law.specs.Writing.{log, nothing_written, write_definitions};
+ghost use Rattle.ot_logic.specs.RanOut.{ran_out};
 
 use crate::writer::Writer;
+use ot_log_law::run_log_law;
+use ot_log_page::Sheet;
 use ot_logic::Memory;
 use ot_machine::{Export, Session};
 use ot_minimise::roots_of;
-use ot_proof_log::run_log_law;
-use ot_sheet::Sheet;
 use ot_text::PrintFault;
 use ot_trace::StepId;
 use ot_write::needed_steps;
@@ -27,17 +29,17 @@ use std::alloc::Global;
 pub enum LogRefusal {
     /// It has more bytes than the limit allows.
     TooLarge,
-    Memory,
+    Memory(Memory),
 }
 
 impl From<Memory> for LogRefusal {
     ghost use Rattle.std.specs.Prelude.{◌≡◌};
     ghost use Rattle.ot_log.specs.declared.writing.LogRefusal.TheVariants.{Memory as OutOfMemory};
 
-    ghost from_gives = { λ _ e. e ≡ OutOfMemory };
+    ghost from_gives = { λ _ e. e ≡ OutOfMemory ran_out };
 
-    fn from(_: Memory) -> LogRefusal {
-        LogRefusal::Memory
+    fn from(memory: Memory) -> LogRefusal {
+        LogRefusal::Memory(memory)
     }
 }
 
@@ -87,6 +89,9 @@ fn write_steps(
     requires definable { All (λ i. IsDefinable (origin_of session.now i)) definitions.now }
     requires exports { All (IsExportIn session.now) exports.now }
     requires proofs { All (HasProof session.now) exports.now }
+    requires definitions { CanDefine (map (origin_of session.now) definitions.now) nothing_written }
+    requires results { CanResult (map (λ e. origin_of session.now e.theorem) exports.now)
+        (write_definitions (map (origin_of session.now) definitions.now) nothing_written) }
     ensures { Writes result (steps_log session.now definitions.now exports.now) max out.old.items out.new.items }
 {
     let writer = written(alloc, session, count, definitions, exports, max as usize)?;
@@ -108,6 +113,9 @@ fn written(
     requires definable { All (λ i. IsDefinable (origin_of session.now i)) definitions.now }
     requires exports { All (IsExportIn session.now) exports.now }
     requires proofs { All (HasProof session.now) exports.now }
+    requires definitions { CanDefine (map (origin_of session.now) definitions.now) nothing_written }
+    requires results { CanResult (map (λ e. origin_of session.now e.theorem) exports.now)
+        (write_definitions (map (origin_of session.now) definitions.now) nothing_written) }
     ensures { IfOk result (λ w. Holds session.now max w
         (log (map (origin_of session.now) definitions.now)
         (map (λ e. origin_of session.now e.theorem) exports.now))) }
@@ -130,6 +138,6 @@ fn finish(sheet: Sheet, out: &mut Vec<u8>) -> Result<(), LogRefusal>
     match sheet.finish(out) {
         Ok(()) => Ok(()),
         Err(PrintFault::TooLarge) => Err(LogRefusal::TooLarge),
-        Err(PrintFault::Memory) => Err(LogRefusal::Memory),
+        Err(PrintFault::Memory(memory)) => Err(LogRefusal::Memory(memory)),
     }
 }

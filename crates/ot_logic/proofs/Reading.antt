@@ -12,6 +12,7 @@ use Rattle.ot_logic.specs.Names.{Item, Plain, Escaped, item_text, item_byte, IsI
 use Rattle.ot_logic.specs.Names.{IsName, Spells, HasShorter, HasNone, AreExclusive, HasAnswer}
 use Rattle.ot_logic.specs.Reading.{Reading, Done, Unended, Trails, push, dot}
 use Rattle.ot_logic.specs.Reading.{behind, read_from, Gives, done_name, name_read}
+use Rattle.ot_logic.specs.RanOut.{ran_out}
 
 pub behind-push : (done : List (List ℕ)) (now : List ℕ) (b : ℕ) (r : Reading) → behind done now (push b r)
     ≡ behind done (now ++ b ∷ []) r
@@ -257,14 +258,14 @@ pub gives-unterminated : (r : Result (List (List ℕ)) NameFault) (text : List �
 gives-unterminated (Ok name) text h e = cc
 gives-unterminated (Err faults.Unterminated) text h e = read_unended text h
 gives-unterminated (Err faults.Trailing) text h e = cc
-gives-unterminated (Err faults.Memory) text h e = cc
+gives-unterminated (Err (faults.Memory memory)) text h e = cc
 
 pub gives-trailing : (r : Result (List (List ℕ)) NameFault) (text : List ℕ) → Gives r (read_from text)
     → IsErrOf r faults.Trailing → HasShorter (34 ∷ text)
 gives-trailing (Ok name) text h e = cc
 gives-trailing (Err faults.Unterminated) text h e = cc
 gives-trailing (Err faults.Trailing) text h e = read_trails text h
-gives-trailing (Err faults.Memory) text h e = cc
+gives-trailing (Err (faults.Memory memory)) text h e = cc
 
 -- the relation and the function agree
 pub name_read-spells : (text : List ℕ) (name : List (List ℕ)) → name_read text ≡ Some name → Spells text name
@@ -309,11 +310,11 @@ gives-found (Ok name) text h = ap done_name h
 gives-found (Err e) text h = tt
 
 pub gives-missing : (r : Result (List (List ℕ)) NameFault) (text : List ℕ) → Gives r (read_from text)
-    → IfErr r (λ e. e ≢ faults.Memory → name_read (34 ∷ text) ≡ None)
+    → IfErr r (λ e. e ≢ faults.Memory ran_out → name_read (34 ∷ text) ≡ None)
 gives-missing (Ok name) text h = tt
 gives-missing (Err faults.Unterminated) text h = λ _. ap done_name h
 gives-missing (Err faults.Trailing) text h = λ _. ap done_name h
-gives-missing (Err faults.Memory) text h = λ n. absurd (n refl)
+gives-missing (Err (faults.Memory memory)) text h = λ n. absurd (n refl)
 
 closed-none : (rest : List ℕ) (name : List (List ℕ)) → 0 < length rest → done_name (closed rest name) ≡ None
 closed-none [] name some = absurd (omega arith)

@@ -16,3 +16,4 @@ pub mod Table
 pub mod Interned
 pub mod Codes
 pub mod PlainTrees
+pub mod RanOut

@@ -63,7 +63,7 @@ abbrev pub Gives : Result (List (List ℕ)) NameFault → Reading → Type 0
 Gives (Ok name) reading = reading ≡ Done name
 Gives (Err faults.Unterminated) reading = reading ≡ Unended
 Gives (Err faults.Trailing) reading = reading ≡ Trails
-Gives (Err faults.Memory) reading = Unit {0}
+Gives (Err (faults.Memory memory)) reading = Unit {0}
 
 -- the name that was read, if one was
 abbrev pub done_name : Reading → Option (List (List ℕ))

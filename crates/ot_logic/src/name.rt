@@ -9,6 +9,7 @@ ghost use Rattle.ot_logic.specs.Names.{HasShorter, HasNone, AreExclusive, HasAns
 ghost use Rattle.ot_logic.specs.Names.{further_text, joined, spelled, SpellsPlainly, KeepsFront};
 ghost use Rattle.ot_logic.specs.Reading.{read_from, read_part, IsShorter, name_read};
 ghost use Rattle.ot_logic.specs.declared.name.NameFault.TheVariants.{Memory};
+ghost use Rattle.ot_logic.specs.RanOut.{ran_out};
 
 use crate::memory::Memory;
 use std::alloc::{AllocError, AllocFailed, Global};
@@ -64,14 +65,14 @@ pub enum NameFault {
     Unterminated,
     /// Bytes follow the closing quote.
     Trailing,
-    Memory,
+    Memory(Memory),
 }
 
 impl<T: Drop> From<AllocFailed<T>> for NameFault {
-    ghost from_gives = { λ _ e. e ≡ Memory };
+    ghost from_gives = { λ _ e. e ≡ Memory ran_out };
 
-    fn from(_: AllocFailed<T>) -> NameFault {
-        NameFault::Memory
+    fn from(refused: AllocFailed<T>) -> NameFault {
+        NameFault::Memory(Memory::from(refused))
     }
 }
 
@@ -86,7 +87,7 @@ impl Name {
         ensures trailing { IsErrOf result NameFault.Trailing → HasShorter quoted.now }
         ensures named { IfOk result IsName }
         ensures found { IfOk result (λ name. name_read quoted.now ≡ Some name) }
-        ensures missing { IfErr result (λ e. e ≢ NameFault.Memory → name_read quoted.now ≡ None) }
+        ensures missing { IfErr result (λ e. e ≢ NameFault.Memory ran_out → name_read quoted.now ≡ None) }
     {
         Name::read_after_quote(alloc, &quoted[1..])
     }
@@ -155,9 +156,9 @@ impl Name {
         let len = out.len();
         match push_spelling(&self.components, out) {
             Ok(()) => Ok(()),
-            Err(_) => {
+            Err(refused) => {
                 out.truncate(len);
-                Err(Memory)
+                Err(Memory::from(refused))
             }
         }
     }

@@ -95,9 +95,7 @@ impl Names {
     {
         // A name has a component.
         let _components = &name.components;
-        if self.entries.len() > u32::MAX as usize {
-            return Err(Memory);
-        }
+        Memory::unless_full(self.entries.len())?;
         let (index, _) = self.entries.insert_full(name)?;
         Ok(NameId(index as u32))
     }
@@ -111,14 +109,15 @@ impl Names {
     {
         let alloc = *self.entries.allocator();
         let count = self.count();
-        for number in count..usize::MAX {
+        let mut number = count as u64;
+        'numbers: loop {
             let text = format!(in alloc; "x{number}")?;
             let id = self.intern(Name::of_text(alloc, text.as_bytes())?)?;
             if id.0 as usize >= count {
                 return Ok(id);
             }
+            number = Memory::next(number)?;
         }
-        Err(Memory)
     }
 
     /// How many names there are.

@@ -20,7 +20,7 @@ use Rattle.ot_machine.specs.Objects.{Object, term}
 use Rattle.ot_machine.specs.Places.{as_term, as_variable}
 use Rattle.ot_machine.specs.Makers.{Read, app_term_made, abs_term_made}
 use Rattle.ot_machine.specs.Values.{value, values}
-use Rattle.ot_machine.specs.Version5.{canon_under, canon, numbered, app, lam, cabs}
+use Rattle.ot_machine.specs.Version5.{canon_under, canon, numbered_variable, app, lam, cabs}
 use Rattle.ot_machine.specs.Version5.{crep, ceq, vr, tr, rep_origin, binders}
 use Rattle.ot_machine.proofs.Tops.{same-ok}
 use Rattle.ot_machine.proofs.Operands.{two-operands}
@@ -100,10 +100,10 @@ binders-low k vs (App f x) u p =
     subst (λ u. max (binders f) (binders x) ≤ depth_tm names u) (sym is) (omega (arith, left, right))
 binders-low k vs (Abs t c) u p =
     let a = two-operands abs_term_made
-    (MoreOrigins (numbered k t) (MoreOrigins (canon_under (suc k) (numbered k t ∷ vs) c) NoOrigins)) (term u) p in
+    (MoreOrigins (numbered_variable k t) (MoreOrigins (canon_under (suc k) (numbered_variable k t ∷ vs) c) NoOrigins)) (term u) p in
     let same = first-is _ _ _ _ a.are in
     let m = abs-parts a.top a.below (term u) a.made in
-    let body = binders-low (suc k) (numbered k t ∷ vs) c m.1 (ap value same.1 ∙ a.upper_is ∙ ap gives m.2) in
+    let body = binders-low (suc k) (numbered_variable k t ∷ vs) c m.1 (ap value same.1 ∙ a.upper_is ∙ ap gives m.2) in
     let is : u ≡ Abs m.0.ty (close names m.0 m.1) = same-term u (Abs m.0.ty (close names m.0 m.1)) m.3 in
     let deep = depth-closed names tells_names 0 m.0 m.1 in
     subst (λ u. suc (binders c) ≤ depth_tm names u) (sym is) (omega (arith, body, deep))

@@ -26,7 +26,7 @@ use Rattle.ot_trace.specs.Origins.{Origin, Make, NoOrigins, make_two}
 use Rattle.ot_term.specs.declared.term.VarKey.{VarKey}
 use Rattle.ot_view.specs.Nodes.{IsKey}
 use Rattle.ot_machine.specs.RenamedLists.{list_onto}
-use Rattle.ot_machine.specs.Version5.{canon_ty, canon_tys, canon_under, canon, numbered, var_term, app, lam}
+use Rattle.ot_machine.specs.Version5.{canon_ty, canon_tys, canon_under, canon, numbered_variable, var_term, app, lam}
 use Rattle.ot_machine.specs.Canonical.{Binders, variable_in, canon_in, binders_at, IsBinderIn}
 use Rattle.ot_machine.specs.Canonical.{AreTypes, same_binder, same_part, IsStepOf, AreTerms, AreKnown}
 use Rattle.ot_machine.specs.declared.makers.canonical.Binder.{Binder}
@@ -64,7 +64,7 @@ form-is : (k : ℕ) (bs : Binders) (t : Named Name)
 form-is k bs (NVar v) = variable-is k bs v
 form-is k bs (NConst n t) = refl
 form-is k bs (NApp f x) = λ i. app (form-is k bs f i) (form-is k bs x i)
-form-is k bs (NAbs v b) = ap (lam (numbered k v.ty)) (form-is (suc k) ((v, numbered k v.ty) ∷ bs) b)
+form-is k bs (NAbs v b) = ap (lam (numbered_variable k v.ty)) (form-is (suc k) ((v, numbered_variable k v.ty) ∷ bs) b)
 
 pub canon-is : (t : Named Name) → canon_in 0 [] t ≡ canon (nameless names t)
 canon-is t = form-is 0 [] t ∙ ap canon (nameless_in-nil names tells_names t)
@@ -78,10 +78,10 @@ canon-agree k bs cs (NConst n t) h = refl
 canon-agree k bs cs (NApp f x) h =
     λ i. app (canon-agree k bs cs f (λ v p. h v (inl p)) i) (canon-agree k bs cs x (λ v p. h v (inr p)) i)
 canon-agree k bs cs (NAbs w b) h =
-    ap (lam (numbered k w.ty)) (canon-agree (suc k) ((w, numbered k w.ty) ∷ bs) ((w, numbered k w.ty) ∷ cs) b inside)
+    ap (lam (numbered_variable k w.ty)) (canon-agree (suc k) ((w, numbered_variable k w.ty) ∷ bs) ((w, numbered_variable k w.ty) ∷ cs) b inside)
   where
-    inside : (v : Variable Name) → IsFreeIn names v b → variable_in ((w, numbered k w.ty) ∷ bs) v
-        ≡ variable_in ((w, numbered k w.ty) ∷ cs) v
+    inside : (v : Variable Name) → IsFreeIn names v b → variable_in ((w, numbered_variable k w.ty) ∷ bs) v
+        ≡ variable_in ((w, numbered_variable k w.ty) ∷ cs) v
     inside v p = elim (var_cases names tells_names v w) [
       | inl e ↦ rw e.0 refl
       | inr e ↦ rw e.0 (h v ((λ q. e.1 (sym q)), p))

@@ -4,6 +4,7 @@ use Rattle.std.proofs.Common.{◌≡◌, ℕ, List, [], Bool, false, ap, ◌∙�
 use Rattle.ot_io.specs.Reading.{Reads, HasRead}
 use Rattle.ot_io.proofs.Reading.{Reads-then, Reads-none}
 use Rattle.ot_logic.specs.Faults as stated
+use Rattle.ot_logic.specs.RanOut.{ran_out}
 use Rattle.ot_scan.specs.Lines.{Scan, Lines, lines_of, lines_to_come, TakesLine, TakesFrom}
 use Rattle.ot_scan.specs.declared.lines.Line.{Line}
 use Rattle.ot_scan.specs.declared.fault.ScanFault.{ScanFault}
@@ -89,11 +90,11 @@ module _ (c : Context) (max : ℕ) (start : State) where
   }
 
 -- a fault with a line is never running out of memory
-pub refused-apart : (number line : ℕ) (f : Fault) → refusal number f ≡ article.At line code.Memory → ⊥
-refused-apart number line code.Memory e = cc
+pub refused-apart : (number line : ℕ) (f : Fault) → refusal number f ≡ article.At line (code.Memory ran_out) → ⊥
+refused-apart number line (code.Memory memory) e = cc
 refused-apart number line f e = cc
 
-pub stopped-apart : (line : ℕ) (f : ScanFault) → article_fault f ≡ article.At line code.Memory → ⊥
+pub stopped-apart : (line : ℕ) (f : ScanFault) → article_fault f ≡ article.At line (code.Memory ran_out) → ⊥
 stopped-apart line (scan.LineTooLong number) e = cc
 stopped-apart line (scan.ArticleTooLong number) e = cc
 stopped-apart line scan.ReadFault e = cc

@@ -64,7 +64,7 @@ module _ (c : Context) (start : State) where
   runs-lead k (Err (article.At line fault)) max bytes t r =
       stop-leads _ start t line r.0 (lines_of-fit max bytes) leads-none r.2
   runs-lead k (Err article.ReadFault) max bytes t r = reached-leads _ t (lines_of-fit max bytes) r
-  runs-lead k (Err article.Memory) max bytes t r = reached-leads _ t (lines_of-fit max bytes) r
+  runs-lead k (Err (article.Memory memory)) max bytes t r = reached-leads _ t (lines_of-fit max bytes) r
 
   pub read-leads : (k : kernel.State) (result : Result (Unit {0}) ArticleFault) (max : ℕ) (t : State)
       (all left : Option (List ℕ))

@@ -73,7 +73,7 @@ module _ (c : Context) where
   runs_refusal : (k : kernel.State) (line : ℕ) (e : Fault) (all : Lines) (start now : State)
       → ((f : stated.Fault Name) → fault_of (kernel.name_at k) e ≡ Some f → run c all start ≡ Stopped line f now)
       → IsReached c all start now → Runs k (Err (refusal line e)) c all start now
-  runs_refusal k line faults.Memory all start now stopped reached = reached
+  runs_refusal k line (faults.Memory memory) all start now stopped reached = reached
   runs_refusal k line e all start now stopped reached = (_, refl, stopped _ refl)
 
   -- a line that is refused ends the run, and one that wants memory leaves it where it was

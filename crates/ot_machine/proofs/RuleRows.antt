@@ -24,10 +24,10 @@ use Rattle.ot_machine.specs.Places.{object_at, top, replaced, origins_of}
 use Rattle.ot_machine.specs.Makers.{Read, arity, made_by, maker}
 use Rattle.ot_machine.specs.Rows.{Row, making}
 use Rattle.ot_machine.specs.Step.{on_stack}
-use Rattle.ot_machine.specs.Meaning.{object_of, lists_of, article_of, run_of, state_of, IsOf, Leaves}
-use Rattle.ot_machine.specs.Stays.{Replaces}
+use Rattle.ot_machine.specs.Meaning.{object_of, lists_of, article_of, run_of, machine_state, IsOf, Leaves}
+use Rattle.ot_machine.specs.Stays.{ReplacesTop}
 use Rattle.ot_machine.specs.Answers.{TakesRow, StepsTo}
-use Rattle.ot_machine.specs.Concluding.{Gives, concluding}
+use Rattle.ot_machine.specs.Concluding.{GivesTheorem, concluding}
 use Rattle.ot_machine.proofs.Kept.{grows-on}
 use Rattle.ot_machine.proofs.Refusals.{refuses-rule}
 use Rattle.ot_machine.proofs.Turning.{grows-same, stacked, leaves-grow, made-grow}
@@ -49,7 +49,7 @@ concluded id stated k l h =
     (is ∙ ap Ok (sym at), omega (arith, longer, last))
 
 pub gives : (r : Result ℕ RuleFault) (stated : Stated) (k l : kernel.State) → Concludes r stated k l
-    → Gives l r stated
+    → GivesTheorem l r stated
 gives (Ok id) stated k l h = (concluded id stated k l h).0
 gives (Err e) stated k l h = h.1
 
@@ -67,7 +67,7 @@ module _ (s : Session) (m : Machine) (n : ℕ) (w : Cmd) (stated : Stated) where
       → TakesRow (Err (rule_fault e)) (on_stack (concluding n w stated)) s m s m
   conclude-refused e of h =
       let r = refuses-rule s.kernel e stated h in
-      record { moves = (refl, (r.0, λ f p. ap (after n w (state_of s m)) (r.1 f p))); grown = grows-same s; of = of }
+      record { moves = (refl, (r.0, λ f p. ap (after n w (machine_state s m)) (r.1 f p))); grown = grows-same s; of = of }
 
 -- ---- the row of a word
 abbrev made_entry : Cmd → List Entry → Object → Entry
@@ -86,21 +86,21 @@ module _ (s t u : Session) (m n : Machine) (w : Cmd) (stated : Stated) (r : Resu
     (result : Result (Unit {0}) code.Fault) where
   pub by-rule : Leaves s t m → Concludes r stated s.kernel t.kernel
       → made_by (maker w) (λ k. object_at k (article_of s m).stack) ≡ (stated >>= λ q. Ok (theorem q))
-      → (Gives t.kernel r stated → TakesRow result (on_stack (concluding (arity (maker w)) w stated)) t m u n)
+      → (GivesTheorem t.kernel r stated → TakesRow result (on_stack (concluding (arity (maker w)) w stated)) t m u n)
       → TakesRow result (on_stack (making w)) s m u n
   by-rule kept concludes made turns =
       let taken = on_stack (concluding (arity (maker w)) w stated) in
-      let old : State = state_of s m in
+      let old : State = machine_state s m in
       let x = turns (gives r stated s.kernel t.kernel concludes) in
-      let same : state_of t m ≡ old = λ i. record { article = kept.machine.article i; run = kept.run i } in
+      let same : machine_state t m ≡ old = λ i. record { article = kept.machine.article i; run = kept.run i } in
       let row : making w old.article.stack ≡ concluding (arity (maker w)) w stated old.article.stack =
       ap (placed w old.article.stack) made ∙ through w old.article.stack stated in
       let rows : taken old ≡ on_stack (making w) old =
       ap (λ r. (r >>= λ stack. Ok (record old.article { stack = stack }))
       >>= λ article. Ok (record old { article = article })) (sym row) in
       record {
-        moves = subst (λ z. StepsTo u.kernel result z old (state_of u n)) rows
-            (subst (λ z. StepsTo u.kernel result (taken z) z (state_of u n)) same x.moves);
+        moves = subst (λ z. StepsTo u.kernel result z old (machine_state u n)) rows
+            (subst (λ z. StepsTo u.kernel result (taken z) z (machine_state u n)) same x.moves);
         grown = grows-on (leaves-grow s t m kept) x.grown;
         of = x.of;
       }
@@ -109,14 +109,14 @@ module _ (s t u : Session) (m n : Machine) (w : Cmd) (stated : Stated) (r : Resu
 pub turned : {E : Type 0} {x : Unit {0}} (s t u : Session) (m n : Machine) (w : Cmd) (c : code_object.Object)
     → Leaves s t m → made_by (maker w) (λ k. object_at k (article_of s m).stack)
     ≡ Ok (object_of t.kernel (lists_of t m) c)
-    → Replaces {E = E} (Ok x) (arity (maker w)) c
+    → ReplacesTop {E = E} (Ok x) (arity (maker w)) c
     (Make w (origins_of (top (arity (maker w)) (article_of t m).stack))) t m u n
     → TakesRow (Ok tt) (on_stack (making w)) s m u n
 turned s t u m n w c kept made there =
     let stack = (article_of s m).stack in
     let o = object_of t.kernel (lists_of t m) c in
     record {
-      moves = stacked (making w) (state_of s m) (replaced (arity (maker w)) (made_entry w stack o) stack)
+      moves = stacked (making w) (machine_state s m) (replaced (arity (maker w)) (made_entry w stack o) stack)
           (ap (placed w stack) made)
           ∙ sym (λ i. Ok (record {
             article =

@@ -10,7 +10,7 @@ use Rattle.ot_kernel.specs.State as kernel
 use Rattle.ot_machine.specs.declared.machine.Machine.{Machine}
 use Rattle.ot_machine.specs.declared.session.Session.{Session}
 use Rattle.ot_machine.specs.Meaning.{origin_of, run_of, IsOf, Leaves, Traces}
-use Rattle.ot_machine.specs.Stays.{Stays, Adds}
+use Rattle.ot_machine.specs.Stays.{Stays, GrowsBeside}
 use Rattle.ot_machine.proofs.Kept.{at-Extends, trace-same, traces-grow, grows-on, origin-kept}
 use Rattle.ot_machine.proofs.Stated.{on-err, on-err-map}
 use Rattle.ot_machine.proofs.Turning.{grows-same}
@@ -35,12 +35,12 @@ stays-on p q =
 
 -- ---- a call that may add to the run
 -- a refusal, where all stays
-pub stays-adds : {X E : Type 0} (r : Result X E) {s t : Session} {m : Machine} → Stays s t m → Adds r s t m
+pub stays-adds : {X E : Type 0} (r : Result X E) {s t : Session} {m : Machine} → Stays s t m → GrowsBeside r s t m
 stays-adds r h = record { refused = on-err r h.run; grown = h.grown; article = h.article; of = h.of }
 
 -- after what leaves all as it was
 pub adds-on : {X Y E F : Type 0} (r : Result X E) (q : Result Y F) {s t u : Session} {m : Machine} → Stays s t m
-    → (OnErr r (run_of u ≡ run_of t) → OnErr q (run_of u ≡ run_of t)) → Adds r t u m → Adds q s u m
+    → (OnErr r (run_of u ≡ run_of t) → OnErr q (run_of u ≡ run_of t)) → GrowsBeside r t u m → GrowsBeside q s u m
 adds-on r q h same a = record {
   refused = on-err-map q (λ e. e ∙ h.run) (same a.refused);
   grown = grows-on h.grown a.grown;

@@ -23,7 +23,7 @@ use Rattle.ot_machine.specs.Rows.{definitions_of, theorem_entries, defined}
 use Rattle.ot_machine.specs.declared.machine.Machine.{Machine}
 use Rattle.ot_machine.specs.declared.session.Session.{Session}
 use Rattle.ot_machine.specs.Meaning.{origin_of, givens_of, made_of, run_of, article_of, IsRun, IsOf, Grows}
-use Rattle.ot_machine.specs.Stays.{Stays, Adds}
+use Rattle.ot_machine.specs.Stays.{Stays, GrowsBeside}
 use Rattle.ot_machine.specs.Answers.{Refuses}
 use Rattle.ot_machine.specs.Conversions.{rule_fault}
 use Rattle.ot_machine.proofs.Refusals.{refuses-definition}
@@ -139,7 +139,7 @@ module _ (s : Session) (l : kernel.State) (a d : Vec StepId Global) (m : Machine
 
   -- the run too, where the call was refused
   pub adds-with : {X E : Type 0} (r : Result X E) → OnErr r (run_of with_steps ≡ run_of s) → IsOf with_steps m
-      → Adds r s with_steps m
+      → GrowsBeside r s with_steps m
   adds-with r same of = record { refused = same; grown = steps-grow; article = article-with; of = of }
 
   pub stays-with : kernel.SameBasis s.kernel l → a.items ≡ s.assumption_steps.items
@@ -160,7 +160,7 @@ module _ (s : Session) (l : kernel.State) (a d : Vec StepId Global) (m : Machine
         h.run.each_definition)
 
     pub defined-adds : {X E : Type 0} (r : Result X E) → OnErr r (run_of with_steps ≡ run_of s)
-        → Adds r s with_steps m
+        → GrowsBeside r s with_steps m
     defined-adds r same = adds-with r same defined-of
 
     defined-run : run_of with_steps ≡ with_definition s j c

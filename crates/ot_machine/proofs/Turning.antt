@@ -38,7 +38,7 @@ use Rattle.ot_machine.specs.Version5.{open_theorems, define_type_op_5_row}
 use Rattle.ot_machine.specs.Assumptions.{term_entries, used}
 use Rattle.ot_machine.specs.Defining.{closed_defined, defined_in}
 use Rattle.ot_machine.specs.Step.{Command, command_of, version_rule, define_type_row, on_stack, row, counted, step}
-use Rattle.ot_machine.specs.Meaning.{article_of, run_of, state_of, IsOf, Grows, Leaves}
+use Rattle.ot_machine.specs.Meaning.{article_of, run_of, machine_state, IsOf, Grows, Leaves}
 use Rattle.ot_machine.specs.Answers.{Refuses, StepsTo, TakesRow}
 use Rattle.ot_machine.proofs.Kept.{at-Extends, keeps-same, trace-same}
 use Rattle.ot_machine.proofs.Tops.{same-ok}
@@ -105,7 +105,7 @@ name-kept k l kept n h = at-Extends k.names l.names kept.names [] n h
 pub state-defined : (s t : Session) (m o n : Machine) (count : ℕ) (view symbols theorems : List Entry)
     → article_of t o ≡ article_of s m
     → article_of t n ≡ (let a = article_of t o in record a { stack = exchanged count view a.stack })
-    → view ≡ symbols ++ theorems → with_defined count symbols (theorems, run_of t) (state_of s m) ≡ state_of t n
+    → view ≡ symbols ++ theorems → with_defined count symbols (theorems, run_of t) (machine_state s m) ≡ machine_state t n
 state-defined s t m o n count view symbols theorems kept changed same =
     sym (ap (λ a. record { article = a; run = run_of t })
     (changed ∙ (λ i. let a = kept i in record a { stack = exchanged count (same i) a.stack })))
@@ -118,8 +118,8 @@ refused-moves result e l stated old new is same refuses =
     subst (λ r. StepsTo l r stated old new) (sym is) (same, refuses)
 
 pub refused-turn : (result : Result (Unit {0}) code.Fault) (e : code.Fault) (row : State → Result State (Fault Name))
-    (s : Session) (m : Machine) (t : Session) (n : Machine) → result ≡ Err e → state_of t n ≡ state_of s m
-    → Refuses t.kernel e (row (state_of s m)) → Grows s t → IsOf t n → TakesRow result row s m t n
+    (s : Session) (m : Machine) (t : Session) (n : Machine) → result ≡ Err e → machine_state t n ≡ machine_state s m
+    → Refuses t.kernel e (row (machine_state s m)) → Grows s t → IsOf t n → TakesRow result row s m t n
 refused-turn result e row s m t n is same refuses grown of =
     subst (λ r. TakesRow r row s m t n) (sym is) (record { moves = (same, refuses); grown = grown; of = of })
 

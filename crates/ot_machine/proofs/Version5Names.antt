@@ -27,7 +27,7 @@ use Rattle.ot_machine.specs.Objects.{Object, Objects, name, list, theorem, no_ob
 use Rattle.ot_machine.proofs.NamedValues.{value-named}
 use Rattle.ot_machine.proofs.CanonLow.{canon-low}
 use Rattle.ot_machine.specs.NamesIn.{TyNamed, TysNamed, TmNamed, ObjectNamed, ObjectsNamed, HasVersion5}
-use Rattle.ot_machine.specs.Version5.{canon_ty, canon_tys, canon_under, numbered, binders, or_nil, abs_origin}
+use Rattle.ot_machine.specs.Version5.{canon_ty, canon_tys, canon_under, numbered_variable, binders, or_nil, abs_origin}
 use Rattle.ot_machine.specs.Version5.{abs_value, rep_origin, rep_value, open_theorems, define_type_op_5_row}
 use Rattle.ot_machine.proofs.Tops.{same-ok}
 use Rattle.ot_machine.proofs.Fewer.{none-fewer, type_definition-fewer}
@@ -63,11 +63,11 @@ module _ (b : Basis) (has : HasVersion5 b.IsNamed) where
   tm-rests k vs all (App f x) low h =
       ((tm-rests k vs all f (omega (arith, low)) h.0, (tm-rests k vs all x (omega (arith, low)) h.1, tt)), tt)
   tm-rests k vs all (Abs t c) low h =
-      let v : RestsOn b (numbered k t) = ((has.binders k (omega (arith, low)), (ty-rests t h.0, tt)), tt) in (
+      let v : RestsOn b (numbered_variable k t) = ((has.binders k (omega (arith, low)), (ty-rests t h.0, tt)), tt) in (
         (
           v,
           (
-            tm-rests (suc k) (numbered k t ∷ vs) (All-cons (RestsOn b) (numbered k t) vs v all) c (omega (arith, low))
+            tm-rests (suc k) (numbered_variable k t ∷ vs) (All-cons (RestsOn b) (numbered_variable k t) vs v all) c (omega (arith, low))
                 h.1,
             tt,
           ),

@@ -15,7 +15,7 @@ use Rattle.ot_machine.specs.Objects.{no_objects, more_objects}
 use Rattle.ot_machine.specs.declared.object.Object as object
 use Rattle.ot_machine.specs.declared.object.List as items
 use Rattle.ot_machine.specs.declared.object.Cell as cell
-use Rattle.ot_machine.specs.Meaning.{state_of, object_of, list_at, cells_of}
+use Rattle.ot_machine.specs.Meaning.{machine_state, object_of, list_at, cells_of}
 use Rattle.ot_machine.specs.Meaning.{length_bound, IsOf, IsIn, IsListIn, Grows}
 use Rattle.ot_machine.specs.States.{State, Context}
 use Rattle.ot_machine.specs.Run.{Ended, Stopped, run, IsReached}
@@ -51,9 +51,9 @@ pub record IsFirstOf (k : kernel.State) (cells : List cell.Cell) (l : items.List
   pub tail : IsListIn (length cells) rest
   pub shorter : length_bound rest < length_bound l
 
-abbrev pub IsFirst : kernel.State → List cell.Cell → items.List → Option (object.Object × items.List) → Type 0
-IsFirst k cells l None = list_at (cells_of k cells) l ≡ no_objects
-IsFirst k cells l (Some p) = IsFirstOf k cells l p.0 p.1
+abbrev pub IsHead : kernel.State → List cell.Cell → items.List → Option (object.Object × items.List) → Type 0
+IsHead k cells l None = list_at (cells_of k cells) l ≡ no_objects
+IsHead k cells l (Some p) = IsFirstOf k cells l p.0 p.1
 
 -- what running the lines answered, by the kernel's names, and the state that it left
 abbrev pub Runs : kernel.State → Result (Unit {0}) ArticleFault → Context → Lines → State → State → Type 0
@@ -61,7 +61,7 @@ Runs k (Ok u) c lines start now = run c lines start ≡ Ended now
 Runs k (Err (article.At line fault)) c lines start now =
     (f : faults.Fault Name) × (fault_of (kernel.name_at k) fault ≡ Some f) × (run c lines start ≡ Stopped line f now)
 Runs k (Err article.ReadFault) c lines start now = IsReached c lines start now
-Runs k (Err article.Memory) c lines start now = IsReached c lines start now
+Runs k (Err (article.Memory memory)) c lines start now = IsReached c lines start now
 
 -- the symbol that the fault at which an article stops names, where it names one, is of the kernel
 abbrev pub NamesSymbolIn : kernel.State → ArticleFault → Type 0
@@ -71,6 +71,6 @@ NamesSymbolIn k e = Unit {0}
 -- a row was taken: the state moved by it, the session grew, and the machine is still of it
 pub record TakesRow (result : Result (Unit {0}) Fault) (row : State → Result State (faults.Fault Name)) (s : Session)
     (m : Machine) (t : Session) (n : Machine) : Type 0 where
-  pub moves : StepsTo t.kernel result (row (state_of s m)) (state_of s m) (state_of t n)
+  pub moves : StepsTo t.kernel result (row (machine_state s m)) (machine_state s m) (machine_state t n)
   pub grown : Grows s t
   pub of : IsOf t n

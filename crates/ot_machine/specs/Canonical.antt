@@ -11,7 +11,7 @@ use Rattle.ot_kernel.specs.State.{type_at, variable_at, named_at}
 use Rattle.ot_trace.specs.Origins.{Origin}
 use Rattle.ot_view.specs.Nodes.{IsKey}
 use Rattle.ot_machine.specs.Occurrences.{AreOccurrences}
-use Rattle.ot_machine.specs.Version5.{canon_ty, var_origin, var_term, const_term, app, lam, numbered}
+use Rattle.ot_machine.specs.Version5.{canon_ty, var_origin, var_term, const_term, app, lam, numbered_variable}
 use Rattle.ot_machine.specs.declared.makers.canonical.Binder.{Binder}
 use Rattle.ot_machine.specs.declared.makers.canonical.Part.{Part}
 use Rattle.ot_machine.specs.declared.makers.canonical.Known.{Known}
@@ -32,7 +32,7 @@ abbrev pub canon_in : ℕ → Binders → Named Name → Origin Name
 canon_in k bs (NVar v) = var_term (variable_in bs v)
 canon_in k bs (NConst n t) = const_term n t
 canon_in k bs (NApp f x) = app (canon_in k bs f) (canon_in k bs x)
-canon_in k bs (NAbs v b) = lam (numbered k v.ty) (canon_in (suc k) ((v, numbered k v.ty) ∷ bs) b)
+canon_in k bs (NAbs v b) = lam (numbered_variable k v.ty) (canon_in (suc k) ((v, numbered_variable k v.ty) ∷ bs) b)
 
 -- what the code's binders stand for
 abbrev pub binders_at : Session → List Binder → Binders

@@ -15,9 +15,9 @@ use Rattle.ot_machine.specs.Places.{top, replaced, origins_of}
 use Rattle.ot_machine.specs.Rows.{Row}
 
 -- a rule gave the stated theorem, or refused as stated
-abbrev pub Gives : State → Result ℕ RuleFault → Result (Sequent Name) (Fault Name) → Type 0
-Gives k (Ok th) stated = stated ≡ Ok (theorem_at k th)
-Gives k (Err e) stated = RefusesRule e stated
+abbrev pub GivesTheorem : State → Result ℕ RuleFault → Result (Sequent Name) (Fault Name) → Type 0
+GivesTheorem k (Ok th) stated = stated ≡ Ok (theorem_at k th)
+GivesTheorem k (Err e) stated = RefusesRule e stated
 
 -- a theorem that a word makes of the top n entries, in their place
 abbrev pub concluding : ℕ → Cmd → Result (Sequent Name) (Fault Name) → List Entry → Row

@@ -19,13 +19,13 @@ use Rattle.ot_machine.specs.declared.fault.Fault.TheVariants as code
 
 abbrev pub table_fault : TableFault → Fault
 table_fault types.Nesting = code.Nesting
-table_fault types.Memory = code.Memory
+table_fault (types.Memory memory) = code.Memory memory
 
 abbrev pub term_fault : TermFault → Fault
 term_fault terms.NotFunction = code.NotFunction
 term_fault terms.ArgumentType = code.ArgumentType
 term_fault terms.Nesting = code.Nesting
-term_fault terms.Memory = code.Memory
+term_fault (terms.Memory memory) = code.Memory memory
 
 abbrev pub define_fault : DefineFault → Fault
 define_fault definitions.BadDefinitionList = code.BadDefinitionList
@@ -37,7 +37,7 @@ define_fault (definitions.AlreadyDefined s) = code.AlreadyDefined s
 define_fault (definitions.SymbolInUse s) = code.SymbolInUse s
 define_fault definitions.NotClosed = code.NotClosed
 define_fault definitions.TypeVarEscapes = code.TypeVarEscapes
-define_fault definitions.Memory = code.Memory
+define_fault (definitions.Memory memory) = code.Memory memory
 
 abbrev pub rule_fault : RuleFault → Fault
 rule_fault rules.NotBool = code.NotBool
@@ -49,7 +49,7 @@ rule_fault rules.VarFreeInHyps = code.VarFreeInHyps
 rule_fault rules.NotRedex = code.NotRedex
 rule_fault rules.Nesting = code.Nesting
 rule_fault (rules.Define e) = define_fault e
-rule_fault rules.Memory = code.Memory
+rule_fault (rules.Memory memory) = code.Memory memory
 
 abbrev pub word_fault : WordFault → Fault
 word_fault words.UnknownCommand = code.UnknownCommand
@@ -65,5 +65,5 @@ article_fault lines.ReadFault = ReadFault
 
 -- the fault of a line, where memory didn't run out
 abbrev pub refusal : ℕ → Fault → ArticleFault
-refusal line code.Memory = Memory
+refusal line (code.Memory memory) = Memory memory
 refusal line fault = At line fault

@@ -193,8 +193,8 @@ article_of s m = record {
 }
 
 -- the state that a machine and its session stand for
-abbrev pub state_of : Session → Machine → State
-state_of s m = record { article = article_of s m; run = run_of s }
+abbrev pub machine_state : Session → Machine → State
+machine_state s m = record { article = article_of s m; run = run_of s }
 
 -- a step is of the trace, and every object but a number has one
 abbrev pub IsNumber : object.Object → Type 0

@@ -18,7 +18,7 @@ pub record Stays (old new : Session) (m : Machine) : Type 0 where
   pub of : IsOf new m
 
 -- a session that grew, where all that the machine stands for stays, and after a refusal the run too
-pub record Adds {X E : Type 0} (result : Result X E) (old new : Session) (m : Machine) : Type 0 where
+pub record GrowsBeside {X E : Type 0} (result : Result X E) (old new : Session) (m : Machine) : Type 0 where
   pub refused : OnErr result (run_of new ≡ run_of old)
   pub grown : Grows old new
   pub article : article_of new m ≡ article_of old m
@@ -32,7 +32,7 @@ pub record MakesStep {E : Type 0} (result : Result ℕ E) (origin : Origin Name)
   pub kept : Traces old new m
 
 -- an object of an origin stands in the place of the top ones
-pub record Replaces {E : Type 0} (result : Result (Unit {0}) E) (count : ℕ) (o : Object) (origin : Origin Name)
+pub record ReplacesTop {E : Type 0} (result : Result (Unit {0}) E) (count : ℕ) (o : Object) (origin : Origin Name)
     (s : Session) (m : Machine) (t : Session) (n : Machine) : Type 0 where
   pub ok : OnOk result
       (article_of t n

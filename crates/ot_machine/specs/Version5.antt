@@ -53,8 +53,8 @@ binders (App f x) = max (binders f) (binders x)
 binders (Abs t b) = suc (binders b)
 
 -- a variable by its number of abstractions around
-abbrev pub numbered : ℕ → Ty Name → Origin Name
-numbered k t = var_origin (decimal k ∷ []) t
+abbrev pub numbered_variable : ℕ → Ty Name → Origin Name
+numbered_variable k t = var_origin (decimal k ∷ []) t
 
 abbrev pub or_nil : Option (Origin Name) → Origin Name
 or_nil (Some v) = v
@@ -66,7 +66,7 @@ canon_under k vs (Free v) = var_term (var_origin v.name v.ty)
 canon_under k vs (Con n t) = const_term n t
 canon_under k vs (Bound i) = var_term (or_nil (slice_get vs i))
 canon_under k vs (App f x) = app (canon_under k vs f) (canon_under k vs x)
-canon_under k vs (Abs t b) = lam (numbered k t) (canon_under (suc k) (numbered k t ∷ vs) b)
+canon_under k vs (Abs t b) = lam (numbered_variable k t) (canon_under (suc k) (numbered_variable k t ∷ vs) b)
 
 abbrev pub canon : Tm Name → Origin Name
 canon = canon_under 0 []

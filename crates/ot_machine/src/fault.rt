@@ -2,6 +2,7 @@ ghost use Rattle.std.specs.Prelude.{◌≡◌};
 ghost use Rattle.ot_machine.specs.declared.fault.Fault.TheVariants.{Memory as OutOfMemory};
 ghost use Rattle.ot_machine.specs.Conversions.{table_fault, term_fault, define_fault};
 ghost use Rattle.ot_machine.specs.Conversions.{rule_fault, word_fault, article_fault, refusal};
+ghost use Rattle.ot_logic.specs.RanOut.{ran_out};
 
 use ot_define::DefineFault;
 use ot_kernel::RuleFault;
@@ -47,30 +48,30 @@ pub enum Fault {
     TypeVarEscapes,
     ExportMismatch,
     Nesting,
-    Memory,
+    Memory(Memory),
 }
 
 impl From<Memory> for Fault {
-    ghost from_gives = { λ _ f. f ≡ OutOfMemory };
+    ghost from_gives = { λ _ f. f ≡ OutOfMemory ran_out };
 
-    fn from(_: Memory) -> Fault {
-        Fault::Memory
+    fn from(memory: Memory) -> Fault {
+        Fault::Memory(memory)
     }
 }
 
 impl From<AllocError> for Fault {
-    ghost from_gives = { λ _ f. f ≡ OutOfMemory };
+    ghost from_gives = { λ _ f. f ≡ OutOfMemory ran_out };
 
-    fn from(_: AllocError) -> Fault {
-        Fault::Memory
+    fn from(refused: AllocError) -> Fault {
+        Fault::Memory(Memory::from(refused))
     }
 }
 
 impl<T: Drop> From<AllocFailed<T>> for Fault {
-    ghost from_gives = { λ _ f. f ≡ OutOfMemory };
+    ghost from_gives = { λ _ f. f ≡ OutOfMemory ran_out };
 
-    fn from(_: AllocFailed<T>) -> Fault {
-        Fault::Memory
+    fn from(refused: AllocFailed<T>) -> Fault {
+        Fault::Memory(Memory::from(refused))
     }
 }
 
@@ -80,7 +81,7 @@ impl From<TableFault> for Fault {
     fn from(fault: TableFault) -> Fault {
         match fault {
             TableFault::Nesting => Fault::Nesting,
-            TableFault::Memory => Fault::Memory,
+            TableFault::Memory(memory) => Fault::Memory(memory),
         }
     }
 }
@@ -93,7 +94,7 @@ impl From<TermFault> for Fault {
             TermFault::NotFunction => Fault::NotFunction,
             TermFault::ArgumentType => Fault::ArgumentType,
             TermFault::Nesting => Fault::Nesting,
-            TermFault::Memory => Fault::Memory,
+            TermFault::Memory(memory) => Fault::Memory(memory),
         }
     }
 }
@@ -112,7 +113,7 @@ impl From<DefineFault> for Fault {
             DefineFault::SymbolInUse(symbol) => Fault::SymbolInUse(symbol),
             DefineFault::NotClosed => Fault::NotClosed,
             DefineFault::TypeVarEscapes => Fault::TypeVarEscapes,
-            DefineFault::Memory => Fault::Memory,
+            DefineFault::Memory(memory) => Fault::Memory(memory),
         }
     }
 }
@@ -131,7 +132,7 @@ impl From<RuleFault> for Fault {
             RuleFault::NotRedex => Fault::NotRedex,
             RuleFault::Nesting => Fault::Nesting,
             RuleFault::Define(fault) => fault.into(),
-            RuleFault::Memory => Fault::Memory,
+            RuleFault::Memory(memory) => Fault::Memory(memory),
         }
     }
 }
@@ -156,7 +157,7 @@ pub enum ArticleFault {
     At { line: u64, fault: Fault },
     /// The source failed in this call.
     ReadFault,
-    Memory,
+    Memory(Memory),
 }
 
 impl From<ScanFault> for ArticleFault {
@@ -182,7 +183,7 @@ pub fn refusal(line: u64, fault: Fault) -> ArticleFault
     ensures { result ≡ refusal line fault }
 {
     match fault {
-        Fault::Memory => ArticleFault::Memory,
+        Fault::Memory(memory) => ArticleFault::Memory(memory),
         fault => ArticleFault::At { line, fault },
     }
 }

@@ -48,9 +48,7 @@ impl Session {
             return Err(Fault::Nesting);
         }
         let place = machine.cells.len();
-        if place > u32::MAX as usize {
-            return Err(Fault::Memory);
-        }
+        Memory::unless_full(place)?;
         machine.cells.push(Cell {
             head,
             tail,
@@ -75,8 +73,13 @@ impl Session {
         'names: while let Some((name, front)) = rest.split_last() {
             list = match self.cons(machine, Object::Const(*name), list) {
                 Ok(longer) => longer,
-                // Constants are no lists, so the nesting is 1 and memory alone can be wanting.
-                Err(_) => return Err(Memory),
+                Err(fault) => {
+                    let Fault::Memory(memory) = fault else {
+                        // Constants are no lists, so that the nesting is 1.
+                        unreachable!();
+                    };
+                    return Err(memory);
+                }
             };
             rest = front;
         }

@@ -2,12 +2,13 @@ ghost use Rattle.std.specs.Prelude.{◌≡◌, ◌≢◌, ◌<◌, ◌≤◌, �
 ghost use Rattle.ot_io.specs.Causes.{CountRose};
 ghost use Rattle.ot_io.specs.Reading.{HasRead};
 ghost use Rattle.ot_io.specs.Keeping.{KeepsSource};
+ghost use Rattle.ot_logic.specs.RanOut.{ran_out};
 ghost use Rattle.ot_kernel.specs.State.{State};
 ghost use Rattle.ot_scan.specs.Lines.{lines_of};
 ghost use Rattle.ot_scan.specs.Words.{word_value};
 ghost use Rattle.ot_machine.specs.States.{fresh_article};
 ghost use Rattle.ot_machine.specs.declared.session.Session.{Session as SessionState};
-ghost use Rattle.ot_machine.specs.Meaning.{article_of, state_of, command_at};
+ghost use Rattle.ot_machine.specs.Meaning.{article_of, machine_state, command_at};
 ghost use Rattle.ot_machine.specs.Meaning.{version_of, IsRun, IsOf, Grows, IsCommandIn};
 ghost use Rattle.ot_machine.specs.Contexts.{context_of, IsContextOf};
 ghost use Rattle.ot_machine.specs.Step.{step, row, word_row, version_rule};
@@ -23,9 +24,11 @@ use indexmap::IndexMap;
 use ot_io::Source;
 use ot_kernel::{Places, ThmId};
 use ot_logic::Cmd;
+use ot_near::KeyHasher;
 use ot_scan::{Lines, Word, command as read_word};
 use ot_trace::StepId;
 use std::alloc::Global;
+use std::hash::BuildHasherDefault;
 
 /// A theorem that an article exports, and the steps that made it, its list of hypotheses and its conclusion.
 #[derive(Clone, Copy)]
@@ -49,7 +52,7 @@ pub(crate) enum Version {
 pub struct Machine {
     pub(crate) alloc: Global,
     pub(crate) stack: Vec<Entry>,
-    pub(crate) dictionary: IndexMap<i64, Entry>,
+    pub(crate) dictionary: IndexMap<i64, Entry, BuildHasherDefault<KeyHasher>>,
     pub(crate) exports: Vec<Export>,
     // The places of their conclusions among the exports.
     pub(crate) places: Places,
@@ -67,7 +70,7 @@ impl Machine {
         Machine {
             alloc,
             stack: Vec::new(alloc),
-            dictionary: IndexMap::new(alloc),
+            dictionary: IndexMap::with_hasher(alloc, BuildHasherDefault::new()),
             exports: Vec::new(alloc),
             places: Places::new(alloc),
             cells: Vec::new(alloc),
@@ -96,8 +99,8 @@ impl Machine {
         requires of { IsOf session.old self.old }
         requires context { IsContextOf session.old context.now }
         ensures moves { StepsTo session.new.kernel result
-            (step (context_of session.old context.now) (state_of session.old self.old)
-            (word_value word.entry)) (state_of session.old self.old) (state_of session.new self.new) }
+            (step (context_of session.old context.now) (machine_state session.old self.old)
+            (word_value word.entry)) (machine_state session.old self.old) (machine_state session.new self.new) }
         ensures of { IsOf session.new self.new }
         ensures grown { Grows session.old session.new }
     {
@@ -125,11 +128,11 @@ impl Machine {
         requires max_bytes { max_bytes ≤ 2 ^ 32 }
         ensures runs { HasRead (S.left source.old) (S.left source.new) (IsOk result)
             (λ bytes rest. Runs session.new.kernel result (context_of session.old context.now)
-            (lines_of max_bytes bytes) (state_of session.old self.old) (state_of session.new self.new)) }
+            (lines_of max_bytes bytes) (machine_state session.old self.old) (machine_state session.new self.new)) }
         ensures of { IsOf session.new self.new }
         ensures grown { Grows session.old session.new }
         ensures symbols { IfErr result (NamesSymbolIn session.new.kernel) }
-        ensures apart { (line : ℕ) → result ≢ Err (ArticleFault.At line Fault.Memory) }
+        ensures apart { (line : ℕ) → result ≢ Err (ArticleFault.At line (Fault.Memory ran_out)) }
         ensures cause { result ≡ Err ArticleFault.ReadFault → CountRose (S.faults source.old) (S.faults source.new) }
         ensures kept { KeepsSource S.folder S.faults S.misses S.at source.old source.new }
     {
@@ -159,8 +162,8 @@ impl Machine {
         requires context { IsContextOf session.old context.now }
         requires some { 0 < length text.now }
         ensures moves { StepsTo session.new.kernel result
-            (line_step (context_of session.old context.now) (state_of session.old self.old) text.now)
-            (state_of session.old self.old) (state_of session.new self.new) }
+            (line_step (context_of session.old context.now) (machine_state session.old self.old) text.now)
+            (machine_state session.old self.old) (machine_state session.new self.new) }
         ensures of { IsOf session.new self.new }
         ensures grown { Grows session.old session.new }
     {

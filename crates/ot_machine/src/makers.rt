@@ -44,7 +44,7 @@ impl Session {
         };
         match Name::read(alloc, text) {
             Ok(name) => Ok(self.kernel.intern(name)?),
-            Err(NameFault::Memory) => Err(Fault::Memory),
+            Err(NameFault::Memory(memory)) => Err(Fault::Memory(memory)),
             Err(NameFault::Unterminated | NameFault::Trailing) => Err(Fault::BadName),
         }
     }

@@ -6,7 +6,7 @@ ghost use Rattle.ot_machine.specs.Faults.{fault_of};
 ghost use Rattle.ot_machine.specs.Parts.{or_bad, two_of, bad_list};
 ghost use Rattle.ot_machine.specs.Places.{as_list, as_name, as_variable};
 ghost use Rattle.ot_machine.specs.Meaning.{object_of, list_at, lists_of, IsOf, IsIn, IsListIn};
-ghost use Rattle.ot_machine.specs.Answers.{Makes, IsFirst, IsSymbolIn};
+ghost use Rattle.ot_machine.specs.Answers.{Makes, IsHead, IsSymbolIn};
 
 use crate::fault::Fault;
 use crate::machine::Machine;
@@ -71,7 +71,7 @@ impl Session {
     pub(crate) fn first(&self, machine: &Machine, list: List) -> Option<(Object, List)>
         requires of { IsOf self.now machine.now }
         requires inside { IsListIn (length machine.now.cells.items) list }
-        ensures { IsFirst self.now.kernel machine.now.cells.items list result }
+        ensures { IsHead self.now.kernel machine.now.cells.items list result }
     {
         match list {
             List::Nil => None,

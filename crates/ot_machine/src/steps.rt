@@ -11,12 +11,12 @@ ghost use Rattle.ot_trace.specs.Origins.{NoOrigins, from_list, make_one, operand
 ghost use Rattle.ot_trace.specs.Trace.{origin_at as number_origin, origins_at};
 ghost use Rattle.ot_machine.specs.Meaning.{origin_of, origin_or, article_of};
 ghost use Rattle.ot_machine.specs.Meaning.{IsOf, IsIn, IsNumber, HasStep, Traces};
-ghost use Rattle.ot_machine.specs.Stays.{MakesStep, Replaces};
+ghost use Rattle.ot_machine.specs.Stays.{MakesStep, ReplacesTop};
 ghost use Rattle.ot_machine.specs.Places.{top, origins_of};
 ghost use Rattle.ot_machine.specs.Rows.{origin_at};
 ghost use Rattle.ot_machine.specs.RenamedLists.{list_onto};
 ghost use Rattle.ot_machine.specs.Step.{on_stack};
-ghost use Rattle.ot_machine.specs.Concluding.{Gives, concluding};
+ghost use Rattle.ot_machine.specs.Concluding.{GivesTheorem, concluding};
 ghost use Rattle.ot_machine.specs.Answers.{TakesRow};
 
 use crate::fault::Fault;
@@ -215,7 +215,7 @@ impl Session {
         requires of { IsOf self.old machine.old }
         requires inside { IsIn self.old.kernel (length machine.old.cells.items) object }
         requires there { 1 ≤ vec_len machine.old.stack }
-        ensures { Replaces result 1 object (Make word (origins_of (top 1 (article_of self.old machine.old).stack)))
+        ensures { ReplacesTop result 1 object (Make word (origins_of (top 1 (article_of self.old machine.old).stack)))
             self.old machine.old self.new machine.new }
     {
         let operand = self.operand_at(machine, 0)?;
@@ -235,7 +235,7 @@ impl Session {
         requires of { IsOf self.old machine.old }
         requires inside { IsIn self.old.kernel (length machine.old.cells.items) object }
         requires there { 2 ≤ vec_len machine.old.stack }
-        ensures { Replaces result 2 object (Make word (origins_of (top 2 (article_of self.old machine.old).stack)))
+        ensures { ReplacesTop result 2 object (Make word (origins_of (top 2 (article_of self.old machine.old).stack)))
             self.old machine.old self.new machine.new }
     {
         let upper = self.operand_at(machine, 0)?;
@@ -256,7 +256,7 @@ impl Session {
         requires of { IsOf self.old machine.old }
         requires inside { IfOk answer (λ th. th < length self.old.kernel.theorems) }
         requires there { 1 ≤ vec_len machine.old.stack }
-        ensures { (stated : Result (Sequent Name) (StatedFault Name)) → Gives self.old.kernel answer stated
+        ensures { (stated : Result (Sequent Name) (StatedFault Name)) → GivesTheorem self.old.kernel answer stated
             → TakesRow result (on_stack (concluding 1 word stated)) self.old machine.old self.new machine.new }
     {
         match answer {
@@ -276,7 +276,7 @@ impl Session {
         requires of { IsOf self.old machine.old }
         requires inside { IfOk answer (λ th. th < length self.old.kernel.theorems) }
         requires there { 2 ≤ vec_len machine.old.stack }
-        ensures { (stated : Result (Sequent Name) (StatedFault Name)) → Gives self.old.kernel answer stated
+        ensures { (stated : Result (Sequent Name) (StatedFault Name)) → GivesTheorem self.old.kernel answer stated
             → TakesRow result (on_stack (concluding 2 word stated)) self.old machine.old self.new machine.new }
     {
         match answer {
@@ -297,7 +297,7 @@ impl Session {
         requires inside { IsIn self.old.kernel (length machine.old.cells.items) object }
         requires name { name < length self.old.kernel.names }
         requires there { 1 ≤ vec_len machine.old.stack }
-        ensures { Replaces result 1 object (Make word (MoreOrigins (Named (name_at self.old.kernel name)) NoOrigins)) self.old machine.old
+        ensures { ReplacesTop result 1 object (Make word (MoreOrigins (Named (name_at self.old.kernel name)) NoOrigins)) self.old machine.old
             self.new machine.new }
     {
         let operand = self.name_step(machine, name)?;

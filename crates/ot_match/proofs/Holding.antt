@@ -18,7 +18,7 @@ use Rattle.ot_logic.specs.Hol.{type_in}
 use Rattle.ot_logic.specs.NamedTerms.{IsFreeIn, place, nameless, nameless_in, named_type}
 use Rattle.ot_laws.proofs.Typing.{type-nameless}
 use Rattle.ot_laws.proofs.Tests.{tells_names}
-use Rattle.ot_match.specs.Walk.{◌>>=◌, put, put_term, walk_type, walk_types, walk_var, walk_term, Maps}
+use Rattle.ot_match.specs.Walk.{◌>>=◌, with_binding, put_term, walk_type, walk_types, walk_var, walk_term, Maps}
 use Rattle.ot_kernel.specs.State.{State, type_at, types_at}
 use Rattle.ot_logic.specs.PlainTrees.{tys_of}
 use Rattle.ot_match.specs.Steps.{answered, any_bound, Meets}
@@ -34,7 +34,7 @@ answered_cond false m = refl
 
 module _ {K X : Type 0} (same : K → K → Bool) (alike : X → X → Bool) (k : K) (x : X) where
   pub put_found : (m : List (K × X)) (y : X) → lookup (same k) m ≡ Some y
-      → put same alike k x m ≡ answered (alike x y) m
+      → with_binding same alike k x m ≡ answered (alike x y) m
   put_found [] y e = absurd cc
   put_found (p ∷ m) y e = elim (cases_Bool (same k p.0)) [
     | inl t ↦
@@ -49,7 +49,7 @@ module _ {K X : Type 0} (same : K → K → Bool) (alike : X → X → Bool) (k 
       longer true = refl
       longer false = refl
 
-  pub put_new : (m : List (K × X)) → lookup (same k) m ≡ None → put same alike k x m ≡ Some (m ++ (k, x) ∷ [])
+  pub put_new : (m : List (K × X)) → lookup (same k) m ≡ None → with_binding same alike k x m ≡ Some (m ++ (k, x) ∷ [])
   put_new [] e = refl
   put_new (p ∷ m) e = elim (cases_Bool (same k p.0)) [
     | inl t ↦ let q : ◌≡◌ {A = Option X} (Some p.1) None = rw t at e in absurd cc
@@ -94,12 +94,12 @@ module _ (e : List (Variable Name)) (w : Maps names) where
           → walk_type names v.ty u w.0 ≡ Some s → put_term names (record { name = v.name; ty = u }) (nameless names t)
           w.1 ≡ answered b m
           → walk_term names (Free v) (nameless_in names e t) w ≡ answered b (s, m)
-      variable_put s b m types put =
+      variable_put s b m types with_binding =
           variable_is
           ∙ ap (λ o. ◌>>=◌ {B = Maps names} o
           (λ s. ◌>>=◌ {B = Maps names} (put_term names (record { name = v.name; ty = u }) (nameless names t) w.1)
           (λ m. Some (s, m)))) types
-          ∙ ap (λ o. ◌>>=◌ {B = Maps names} o (λ m. Some (s, m))) put ∙ paired b
+          ∙ ap (λ o. ◌>>=◌ {B = Maps names} o (λ m. Some (s, m))) with_binding ∙ paired b
         where
           paired : (c : Bool) → ◌≡◌ {A = Option (Maps names)}
               (◌>>=◌ {B = Maps names} (answered c m) (λ m. Some (s, m))) (answered c (s, m))

@@ -16,7 +16,7 @@ use Rattle.ot_logic.specs.Lists.{AreDistinct}
 use Rattle.ot_laws.proofs.Tests.{Tells, cases_of, same_ty-is, same_var-is, same_tm-is}
 use Rattle.ot_laws.proofs.Typed.{term_at-typed}
 use Rattle.ot_match.specs.Matching.{keys, frees_tm, IsMatch, matched}
-use Rattle.ot_match.specs.Walk.{◌>>=◌, put, put_term, walk_type, walk_types}
+use Rattle.ot_match.specs.Walk.{◌>>=◌, with_binding, put_term, walk_type, walk_types}
 use Rattle.ot_match.specs.Walk.{walk_var, walk_in_type, walk_term, Maps, WalkMatches}
 use Rattle.ot_match.proofs.Once.{each_once-distinct, by-keys}
 use Rattle.ot_match.proofs.Matches.{any_substitution, matched_is_match}
@@ -39,7 +39,7 @@ module _ {K X : Type 0} (same : K → K → Bool) (tells : (x y : K) → Decides
     (decides : (x y : X) → Decides (alike x y) (x ≡ y)) where
   -- one more pair, where the value is the function's
   put-forth : (f : K → X) (k : K) (m : List (K × X)) → Agrees f m
-      → (r : List (K × X)) × (put same alike k (f k) m ≡ Some r) × Agrees f r × (keys r ≡ added same k (keys m))
+      → (r : List (K × X)) × (with_binding same alike k (f k) m ≡ Some r) × Agrees f r × (keys r ≡ added same k (keys m))
   put-forth f k [] a = ((k, f k) ∷ [], refl, (refl, tt), refl)
   put-forth f k (p ∷ m) a = elim (cases_of (same k p.0) (tells k p.0)) [
     | inl q ↦ elim (cases_of (alike (f k) p.1) (decides (f k) p.1)) [
@@ -52,7 +52,7 @@ module _ {K X : Type 0} (same : K → K → Bool) (tells : (x y : K) → Decides
   ]
 
   -- and back
-  put-back : (f : K → X) (k : K) (x : X) (m r : List (K × X)) → put same alike k x m ≡ Some r → Agrees f r
+  put-back : (f : K → X) (k : K) (x : X) (m r : List (K × X)) → with_binding same alike k x m ≡ Some r → Agrees f r
       → (f k ≡ x) × Agrees f m
   put-back f k x [] r e a =
       let b : Agrees f ((k, x) ∷ []) = subst (Agrees f) (sym (same_Some ((k, x) ∷ []) r e)) a in
@@ -67,12 +67,12 @@ module _ {K X : Type 0} (same : K → K → Bool) (tells : (x y : K) → Decides
           let h : ◌≡◌ {A = Option (List (K × X))} None (Some r) = rw (q.0, t.0) at e in absurd cc
     ]
     | inr q ↦
-        let h : option_map (λ s. p ∷ s) (put same alike k x m) ≡ Some r = rw q.0 at e in
-        later (put same alike k x m) refl h (λ s g b. put-back f k x m s g b)
+        let h : option_map (λ s. p ∷ s) (with_binding same alike k x m) ≡ Some r = rw q.0 at e in
+        later (with_binding same alike k x m) refl h (λ s g b. put-back f k x m s g b)
   ]
     where
-      later : (o : Option (List (K × X))) → put same alike k x m ≡ o → option_map (λ s. p ∷ s) o ≡ Some r
-          → ((s : List (K × X)) → put same alike k x m ≡ Some s → Agrees f s → (f k ≡ x) × Agrees f m)
+      later : (o : Option (List (K × X))) → with_binding same alike k x m ≡ o → option_map (λ s. p ∷ s) o ≡ Some r
+          → ((s : List (K × X)) → with_binding same alike k x m ≡ Some s → Agrees f s → (f k ≡ x) × Agrees f m)
           → (f k ≡ x) × Agrees f (p ∷ m)
       later None g h ih = absurd cc
       later (Some s) g h ih =
@@ -80,7 +80,7 @@ module _ {K X : Type 0} (same : K → K → Bool) (tells : (x y : K) → Decides
           let c = ih s g b.1 in
           (c.0, (b.0, c.1))
 
-  put-keys : (k : K) (x : X) (m r : List (K × X)) → put same alike k x m ≡ Some r → keys r ≡ added same k (keys m)
+  put-keys : (k : K) (x : X) (m r : List (K × X)) → with_binding same alike k x m ≡ Some r → keys r ≡ added same k (keys m)
   put-keys k x [] r e = ap keys (sym (same_Some ((k, x) ∷ []) r e))
   put-keys k x (p ∷ m) r e = elim (cases_of (same k p.0) (tells k p.0)) [
     | inl q ↦ elim (cases_of (alike x p.1) (decides x p.1)) [
@@ -91,12 +91,12 @@ module _ {K X : Type 0} (same : K → K → Bool) (tells : (x y : K) → Decides
           let h : ◌≡◌ {A = Option (List (K × X))} None (Some r) = rw (q.0, t.0) at e in absurd cc
     ]
     | inr q ↦
-        let h : option_map (λ s. p ∷ s) (put same alike k x m) ≡ Some r = rw q.0 at e in
-        rw q.0 (later (put same alike k x m) refl h (λ s g. put-keys k x m s g))
+        let h : option_map (λ s. p ∷ s) (with_binding same alike k x m) ≡ Some r = rw q.0 at e in
+        rw q.0 (later (with_binding same alike k x m) refl h (λ s g. put-keys k x m s g))
   ]
     where
-      later : (o : Option (List (K × X))) → put same alike k x m ≡ o → option_map (λ s. p ∷ s) o ≡ Some r
-          → ((s : List (K × X)) → put same alike k x m ≡ Some s → keys s ≡ added same k (keys m))
+      later : (o : Option (List (K × X))) → with_binding same alike k x m ≡ o → option_map (λ s. p ∷ s) o ≡ Some r
+          → ((s : List (K × X)) → with_binding same alike k x m ≡ Some s → keys s ≡ added same k (keys m))
           → keys r ≡ p.0 ∷ added same k (keys m)
       later None g h ih = absurd cc
       later (Some s) g h ih = ap keys (sym (same_Some (p ∷ s) r h)) ∙ ap (λ w. p.0 ∷ w) (ih s g)

@@ -1,6 +1,8 @@
 -- Lemmas on tables of nodes that are near or far.
-use Rattle.std.proofs.Common.{◌≡◌, ◌+◌, ℕ, zero, suc, ◌<◌, ◌≤◌, inl, inr, Bool, true, false, ◌&&◌, not, cond, nat_lt, List, [], ◌∷◌}
-use Rattle.std.proofs.Common.{◌++◌, length, slice_get, slice_index, position, Option, Some, None, refl, sym, ap, subst, ◌∙◌, true≢false}
+use Rattle.std.proofs.Common.{◌≡◌, ◌+◌, ℕ, zero, suc, ◌<◌, ◌≤◌, inl, inr, Bool, true, false, ◌&&◌, not, cond, nat_lt}
+use Rattle.std.proofs.Common.{List, [], ◌∷◌}
+use Rattle.std.proofs.Common.{◌++◌, length, slice_get, slice_index, position, Option, Some, None, refl, sym, ap}
+use Rattle.std.proofs.Common.{subst, ◌∙◌, true≢false}
 use Rattle.std.proofs.Common.{arith, IfSome, is_some, lt-ltb, le-ltb}
 use mathlib.Core.Bool.{beq}
 use Rattle.std.specs.Cmp.{IsEquivalence}
@@ -318,3 +320,11 @@ module _ {K : Type 0} (same : K → K → Bool) (greatest : K → Option ℕ) wh
           none_from : {A : Type 0} (r : Option A) → is_some r ≡ false → r ≡ None
           none_from None h = refl
           none_from (Some a) h = absurd (true≢false h)
+
+      -- of a number with many users: far exactly where it isn't near
+      pub sought-full : {V : Type 0} (es : List (Placed K × V)) (us : List ℕ) (n : K) (found : Bool)
+          → IsNear same greatest (keys_of es) us → IsFull us (greatest n)
+          → is_some (lookup (same_placed (record { node = n; is_far = false })) es) ≡ found
+          → IsSoughtIn same greatest (keys_of es) us (record { node = n; is_far = not found })
+      sought-full es us n true near full there = sought-near es us n near there
+      sought-full es us n false near full absent = sought-far es us n absent full

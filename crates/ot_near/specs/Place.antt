@@ -22,15 +22,15 @@ abbrev pub far_place : ℕ → ℕ
 far_place mix = mix % 2 ^ 32
 
 -- a node that has a greatest number and isn't far is near it
-abbrev pub place_of : Option ℕ → Bool → ℕ → ℕ
-place_of (Some n) false mix = near_place n mix
-place_of (Some n) true mix = far_place mix
-place_of None far mix = far_place mix
+abbrev pub place_by : Option ℕ → Bool → ℕ → ℕ
+place_by (Some n) false mix = near_place n mix
+place_by (Some n) true mix = far_place mix
+place_by None far mix = far_place mix
 
 -- a place is one write of four bytes
-abbrev pub taken : PlaceHasher → List ℕ → PlaceHasher
-taken h (a ∷ b ∷ c ∷ d ∷ []) = record { place = from_le_bytes w32 (a ∷ b ∷ c ∷ d ∷ []) }
-taken h bytes = h
+abbrev pub written_to : PlaceHasher → List ℕ → PlaceHasher
+written_to h (a ∷ b ∷ c ∷ d ∷ []) = record { place = from_le_bytes w32 (a ∷ b ∷ c ∷ d ∷ []) }
+written_to h bytes = h
 
 parts : (a b : Bool) → (a && b) ≡ true → (a ≡ true) × (b ≡ true)
 parts true true p = (refl, refl)
@@ -47,7 +47,7 @@ module _ {K : Type 0} (same : K → K → Bool) (greatest : K → Option ℕ) (w
     (number : (x y : K) → same x y ≡ true → greatest x ≡ greatest y)
     (fed_alike : (x y : K) → same x y ≡ true → writes x ≡ writes y) where
   abbrev place : Placed K → HashWrites
-  place p = fed.u32 (place_of (greatest p.node) p.is_far (mix_of (writes p.node)))
+  place p = fed.u32 (place_by (greatest p.node) p.is_far (mix_of (writes p.node)))
 
   -- equal nodes that are both near, or both far, have one place
   pub place-alike : (p q : Placed K) → (same p.node q.node && beq p.is_far q.is_far) ≡ true → place p ≡ place q
@@ -56,4 +56,4 @@ module _ {K : Type 0} (same : K → K → Bool) (greatest : K → Option ℕ) (w
       let numbers = number p.node q.node both.0 in
       let far = same_bool p.is_far q.is_far both.1 in
       let writes_alike = fed_alike p.node q.node both.0 in
-      λ i. fed.u32 (place_of (numbers i) (far i) (mix_of (writes_alike i)))
+      λ i. fed.u32 (place_by (numbers i) (far i) (mix_of (writes_alike i)))

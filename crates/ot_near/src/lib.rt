@@ -5,8 +5,10 @@
 //! that none of them waits for the others.
 #![tactic(auto)]
 
+mod key;
 mod place;
 mod table;
 
+pub use key::KeyHasher;
 pub use place::Refers;
 pub use table::NearMap;

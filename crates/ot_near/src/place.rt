@@ -1,7 +1,7 @@
 //! Where the hash table looks for a node.
 ghost use Rattle.std.specs.Prelude.{◌≡◌, ◌+◌, ◌*◌, ◌/◌, ◌%◌, ◌^◌, ◌<◌, ℕ, Option, IsTrue};
 ghost use Rattle.std.specs.Hash as fed;
-ghost use Rattle.ot_near.specs.Place.{near_place, far_place, place_of, mix_of, place-alike, taken};
+ghost use Rattle.ot_near.specs.Place.{near_place, far_place, place_by, mix_of, place-alike, written_to};
 
 use std::hash::{FoldHasher, Hash, Hasher};
 
@@ -26,7 +26,7 @@ pub(crate) struct Placed<K> {
 }
 
 impl<K: Refers> Hash for Placed<K> {
-    ghost hash_input = { λ p. fed.u32 (place_of (K.greatest p.node) p.is_far (mix_of (K.hash_input p.node))) };
+    ghost hash_input = { λ p. fed.u32 (place_by (K.greatest p.node) p.is_far (mix_of (K.hash_input p.node))) };
 
     ghost respects_eq = { place-alike K.eq K.greatest K.hash_input K.greatest_alike K.respects_eq };
 
@@ -40,7 +40,7 @@ impl<K: Refers> Hash for Placed<K> {
 
 /// The place of a node whose greatest number and mix these are.
 fn place(greatest: Option<u32>, is_far: bool, mix: u64) -> u32
-    ensures { result ≡ place_of greatest is_far mix }
+    ensures { result ≡ place_by greatest is_far mix }
 {
     match greatest {
         Some(number) => {
@@ -62,7 +62,7 @@ fn near_place(number: u32, mix: u64) -> u32
 }
 
 /// The group and the tag of the mixed node.
-fn far_place(mix: u64) -> u32
+pub(crate) fn far_place(mix: u64) -> u32
     ensures { result ≡ far_place mix }
 {
     (mix % (1 << 32)) as u32
@@ -81,7 +81,7 @@ impl Default for PlaceHasher {
 }
 
 impl Hasher for PlaceHasher {
-    ghost write = { taken };
+    ghost write = { written_to };
 
     ghost finish = { λ h. h.place };
 

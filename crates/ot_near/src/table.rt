@@ -1,5 +1,6 @@
 //! The table: its nodes with what stands beside them, and how many users each number has.
-ghost use Rattle.std.specs.Prelude.{◌≡◌, ◌↔◌, ◌<◌, ◌≤◌, ◌+◌, [], ℕ, slice_get, slice_index, IfOk, OnOk, OnErr, IfSome, IsSome, IsTrue};
+ghost use Rattle.std.specs.Prelude.{◌≡◌, ◌↔◌, ◌<◌, ◌≤◌, ◌+◌, [], ℕ, slice_get, slice_index, IfOk, OnOk, OnErr};
+ghost use Rattle.std.specs.Prelude.{IfSome, IsSome, IsTrue};
 ghost use Rattle.std.specs.Option.{option_map};
 ghost use Rattle.std.specs.Map.Iter.{deref_pair};
 ghost use Rattle.indexmap.specs.IndexMap.{keys, index_map_len, index_of, insert_index, insert_entry};
@@ -128,18 +129,14 @@ fn sought<K: Refers + Drop, V>(entries: &Entries<K, V>, users: &[u8], node: K) -
     ensures sought { IsSoughtIn K.eq K.greatest (keys entries.now) users.now result }
 {
     let is_full = has_many(users, node.greatest());
-    let near = Placed {
+    let mut placed = Placed {
         node,
         is_far: false,
     };
-    if !is_full {
-        return near;
+    if is_full {
+        placed.is_far = !entries.contains_key(&placed);
     }
-    if entries.contains_key(&near) {
-        return near;
-    }
-    let Placed { node, .. } = near;
-    Placed { node, is_far: true }
+    placed
 }
 
 /// Whether further users of a number are far from it.

@@ -10,15 +10,15 @@ pub halt-next : {A B : Type 0} (h : Halt) (o : Reading A) (f : A → List ℕ �
     → IsHalt h (next o f)
 halt-next (halts.Syntax r) o f e = ap (λ z. next z f) e
 halt-next (halts.TooManyOpen r) o f e = ap (λ z. next z f) e
-halt-next halts.Memory o f e = tt
+halt-next (halts.Memory memory) o f e = tt
 
 pub halt-mapped : {A B : Type 0} (h : Halt) (o : Reading A) (f : A → B) → IsHalt h o → IsHalt h (mapped f o)
 halt-mapped (halts.Syntax r) o f e = ap (mapped f) e
 halt-mapped (halts.TooManyOpen r) o f e = ap (mapped f) e
-halt-mapped halts.Memory o f e = tt
+halt-mapped (halts.Memory memory) o f e = tt
 
 -- the same reading
 pub halt-same : {A : Type 0} (h : Halt) (o p : Reading A) → p ≡ o → IsHalt h o → IsHalt h p
 halt-same (halts.Syntax r) o p q e = q ∙ e
 halt-same (halts.TooManyOpen r) o p q e = q ∙ e
-halt-same halts.Memory o p q e = tt
+halt-same (halts.Memory memory) o p q e = tt

@@ -22,3 +22,4 @@ pub mod Places
 pub mod Made
 pub mod WholeLines
 pub mod Refusing
+pub mod Passing

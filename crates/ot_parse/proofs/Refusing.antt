@@ -19,6 +19,7 @@ use Rattle.ot_parse.specs.declared.refusal.ReadRefusal.TheVariants as refusals
 use Rattle.ot_parse.specs.declared.values.Meant.TheVariants as parts
 use Rattle.ot_parse.specs.declared.values.Value.{Value}
 use Rattle.ot_logic.specs.PlainTrees.{term_of_tree}
+use Rattle.ot_logic.specs.RanOut.{ran_out}
 use Rattle.ot_parse.specs.Plain.{sequent_of}
 use Rattle.ot_parse.specs.Refused.{IsRefusal, IsTermRefusal}
 use Rattle.ot_parse.specs.Meant.{Meaning, place_at}
@@ -30,10 +31,10 @@ use Rattle.ot_parse.proofs.WholeLines.{was-read, unmapped}
 
 -- a refusal at the wanted place
 at-place : (P : ReadRefusal → Type 0) (k : ℕ) (f : TextFault) (r : ReadRefusal) → P (refusals.At (k + 1) f)
-    → P refusals.Memory → IsAt k f r → P r
+    → P (refusals.Memory ran_out) → IsAt k f r → P r
 at-place P k f (refusals.At c g) h m e =
     subst (λ z. P (refusals.At c z)) (sym e.1) (subst (λ z. P (refusals.At z f)) (sym e.0) h)
-at-place P k f refusals.Memory h m e = m
+at-place P k f (refusals.Memory memory) h m e = m
 
 module _ (hidden : List (Symbol Name)) (nt : IsNotation hidden) where
   -- ---- a line
@@ -52,7 +53,7 @@ module _ (hidden : List (Symbol Name)) (nt : IsNotation hidden) where
         (stops-line q.now w) tt e
     line-refused (halts.TooManyOpen q) r w e = at-place (IsRefusal hidden line) (length line - length q.now)
         TooManyOpen r (line-opens hidden nt line q.now w) tt e
-    line-refused halts.Memory r w e = subst (IsRefusal hidden line) (sym e) tt
+    line-refused (halts.Memory memory) r w e = subst (IsRefusal hidden line) (sym e) tt
 
     pub line-meant : (r : Result Readable ReadRefusal) → IsMeantLine hidden line r
         → IfOk r (λ x. ReadsAs hidden line (sequent_of x))
@@ -64,7 +65,7 @@ module _ (hidden : List (Symbol Name)) (nt : IsNotation hidden) where
     line-meant-wrong (Ok r) h = tt
     line-meant-wrong (Err (refusals.At c f)) h =
         subst (λ z. IsRefusal hidden line (refusals.At z f)) (sym h.4) (line-wrong hidden nt line h.0 h.1 f h.2 h.3)
-    line-meant-wrong (Err refusals.Memory) h = tt
+    line-meant-wrong (Err (refusals.Memory memory)) h = tt
 
   -- ---- a text of one term
   module _ (text : List ℕ) where
@@ -93,7 +94,7 @@ module _ (hidden : List (Symbol Name)) (nt : IsNotation hidden) where
     term-refused (halts.TooManyOpen q) r w e =
         at-place (IsTermRefusal hidden text) (length text - length q.now) TooManyOpen r
         (term-opens hidden nt text q.now (unmapped means (terms hidden text) OneTooMany q.now w)) tt e
-    term-refused halts.Memory r w e = subst (IsTermRefusal hidden text) (sym e) tt
+    term-refused (halts.Memory memory) r w e = subst (IsTermRefusal hidden text) (sym e) tt
 
     pub term-meant : (v : Value) → meant_at hidden (length text) false text ≡ Got (meant_of (parts.Value v)) []
         → ReadsAsTerm hidden text (term_of_tree v.term)

@@ -1,7 +1,7 @@
 -- What comes of a term that has ended.
 use Rattle.std.specs.Prelude.{◌≡◌, ◌≤◌, ◌+◌, ◌-◌, ◌==◌, ℕ, true, false}
 use Rattle.std.specs.Prelude.{cond, length, List, [], ◌∷◌, codes}
-use Rattle.std.proofs.Common.{refl, sym, ◌∙◌, ap, arith, Bor}
+use Rattle.std.proofs.Common.{refl, sym, ◌∙◌, ap, subst, arith, Bor}
 use Rattle.std.proofs.lemmas.Bool.Decides.{nat_tests}
 use Rattle.ot_logic.specs.Names.{Name}
 use Rattle.ot_logic.specs.Trees.{Ty, Symbol}
@@ -19,11 +19,12 @@ use Rattle.ot_parse.specs.Meant.{abstracted, applied_of, is_relation, sides_of}
 use Rattle.ot_parse.specs.Values.{Means, IsWholly, meant_of}
 use Rattle.ot_parse.specs.TermFrames.{First, Right, Argument, Body, closed, reads}
 use Rattle.ot_parse.specs.TermFrames.{begun, operated, applied, behind, after}
-use Rattle.ot_parse.specs.TermCode.{GoesIn, IsWhole}
+use Rattle.ot_parse.specs.TermCode.{GoesIn, IsWholeTerm}
 use Rattle.ot_parse.proofs.Halts.{halt-same, halt-next, halt-mapped}
 use Rattle.ot_parse.proofs.Lengths.{literal-length, space-length, signs-length}
 use Rattle.ot_parse.proofs.Meanings.{whole-raw}
 use Rattle.ot_parse.proofs.TermLaws.{argument-goes}
+use Rattle.ot_parse.proofs.ValueLaws.{wholly-proposition}
 
 -- a halt behind what was read
 pub halt-behind : {A B : Type 0} (h : Halt) (o : Reading A) (f : A → List ℕ → Reading B) (x : A) (s : List ℕ)
@@ -115,7 +116,11 @@ module _ (n : ℕ) (hidden : List (Symbol Name)) (m : ℕ) (l : Around) where
       (opens.Right k p w y) q
   operator-in k place p x y s o r q e h c d f g w z = record {
     within = (let a = signs-length s o r c in let b = space-length r q d in omega (arith, a, b, h));
-    kept = g.kept;
+    kept = (
+      g.kept,
+      (λ r. wholly-proposition l place (meant_of x) y
+          (subst (λ b. IsWholly l b place (meant_of x) y) (ap is_relation (sym z) ∙ r) g)),
+    );
     same = ap (λ v. closed (next v (spaced k (meant_of x)))) c
         ∙ ap (λ v. closed (next v (λ _ q. side k (meant_of x) o q))) d ∙ go (read q)
         ∙ (λ i. next (begun n hidden m l q)
@@ -138,7 +143,7 @@ module _ (n : ℕ) (hidden : List (Symbol Name)) (m : ℕ) (l : Around) where
   closed-halts v s h e = halt-mapped h (literal_at (codes ")") s) (λ _. v) e
 
   pub closed-whole : (v : Meaning) (y : Part) (s r : List ℕ) → length s ≤ n → literal_at (codes ")") s ≡ Got tt r
-      → Means l v y → IsWhole n l (closed (Got v s)) y r
+      → Means l v y → IsWholeTerm n l (closed (Got v s)) y r
   closed-whole v y s r h e g = record {
     within = (let a : length s ≡ 1 + length r = literal-length (codes ")") s r e in omega (arith, a, h));
     meant = g.kept;
@@ -148,7 +153,7 @@ module _ (n : ℕ) (hidden : List (Symbol Name)) (m : ℕ) (l : Around) where
   pub right-whole : (k p : ℕ) (o : List ℕ) (x f y z : Part) (s r : List ℕ) → length s ≤ n → literal_at (codes ")") s
       ≡ Got tt r → IsWholly l (is_relation o) p (meant_of x) y
       → Means l (sides_of hidden l k o (meant_of f) (meant_of y)) z
-      → IsWhole n l (after n hidden m l (Right k p o (meant_of f)) (meant_of x) s) z r
+      → IsWholeTerm n l (after n hidden m l (Right k p o (meant_of f)) (meant_of x) s) z r
   right-whole k p o x f y z s r h e g w =
       closed-whole (sides_of hidden l k o (meant_of f) (wholly l (is_relation o) p (meant_of x))) z s r h e
       (record { means = w.means ∙ ap (sides_of hidden l k o (meant_of f)) g.means; kept = w.kept })
@@ -156,7 +161,7 @@ module _ (n : ℕ) (hidden : List (Symbol Name)) (m : ℕ) (l : Around) where
   pub body-whole : (p : ℕ) (x : List ℕ) (t : Ty Name) (a y z : Part) (s r : List ℕ) → length s ≤ n
       → literal_at (codes ")") s ≡ Got tt r → IsWholly ((x, t) ∷ l) false p (meant_of a) y
       → Means l (abstracted t (meant_of y)) z
-      → IsWhole n l (after n hidden m l (Body p x t) (meant_of a) s) z r
+      → IsWholeTerm n l (after n hidden m l (Body p x t) (meant_of a) s) z r
   body-whole p x t a y z s r h e g w =
       closed-whole (abstracted t (wholly ((x, t) ∷ l) false p (meant_of a))) z s r h e
       (record { means = w.means ∙ ap (abstracted t) g.means; kept = w.kept })
@@ -207,7 +212,7 @@ module _ (n : ℕ) (hidden : List (Symbol Name)) (m : ℕ) (l : Around) where
   pub argument-whole : (k p : ℕ) (f x y z : Part) (b : ℕ) (s r : List ℕ) → length (b ∷ s) ≤ n → (b == 32) ≡ false
       → literal_at (codes ")") (b ∷ s) ≡ Got tt r
       → IsWholly l false p (meant_of x) y → Means l (apply_of l k (meant_of f) (meant_of y)) z
-      → IsWhole n l (after n hidden m l (Argument k p (meant_of f)) (meant_of x) (b ∷ s)) z r
+      → IsWholeTerm n l (after n hidden m l (Argument k p (meant_of f)) (meant_of x) (b ∷ s)) z r
   argument-whole k p f x y z b s r w h e g v =
       let c = closed-whole (apply_of l k (meant_of f) (wholly l false p (meant_of x))) z (b ∷ s) r w e
       (record { means = v.means ∙ ap (apply_of l k (meant_of f)) g.means; kept = v.kept }) in

@@ -4,6 +4,7 @@ use Rattle.std.specs.Prelude.{[], ◌∷◌, ◌++◌, map, Result, Ok, Err, IsE
 use Rattle.std.proofs.Common.{refl, sym, ◌∙◌, ap, subst, arith, length-append}
 use Rattle.ot_logic.specs.Names.{Name}
 use Rattle.ot_logic.specs.Trees.{Symbol}
+use Rattle.ot_logic.specs.RanOut.{ran_out}
 use Rattle.ot_forms.specs.Words.{IsNotation}
 use Rattle.ot_forms.specs.Forms.{Written}
 use Rattle.ot_forms.specs.Meaning.{Around}
@@ -23,7 +24,7 @@ use Rattle.ot_parse.specs.Meant.{Meaning, place_at, raw}
 use Rattle.ot_parse.specs.Values.{IsMeant, meant_of}
 use Rattle.ot_parse.specs.TermFrames.{TermFrame, inner_of, around, reads, begun, after, resume}
 use Rattle.ot_parse.specs.TermCode.{frame_of, reversed, frames_of, IsKept, AreKept, GoesIn, HasHead}
-use Rattle.ot_parse.specs.TermCode.{IsFront, IsBack, IsLeft, GoesOn, IsClosed, IsOn, HasEnded, IsNext}
+use Rattle.ot_parse.specs.TermCode.{IsFront, IsBack, IsLeft, OpensTerm, ClosesTerm, IsOn, HasEnded, IsNext}
 use Rattle.ot_parse.proofs.Halts.{halt-same}
 use Rattle.ot_parse.proofs.Lengths.{term-length, got-rest}
 
@@ -40,7 +41,7 @@ module _ (n : ℕ) (hidden : List (Symbol Name)) where
       → IsHalt h (resume n hidden m fs o)
   halted m fs (halts.Syntax r) o e = ap (resume n hidden m fs) e ∙ halts-in m fs NoForm r.now
   halted m fs (halts.TooManyOpen r) o e = ap (resume n hidden m fs) e ∙ halts-in m fs OneTooMany r.now
-  halted m fs halts.Memory o e = tt
+  halted m fs (halts.Memory memory) o e = tt
 
   -- ---- what is closed
   pub left-start : (os : List Open) (o : Reading Meaning) → IsLeft n hidden os os o o
@@ -78,7 +79,7 @@ module _ (n : ℕ) (hidden : List (Symbol Name)) where
   -- a term has ended inside these, or a further one begins
   abbrev pub IsClosedTo : List Open → Reading Meaning → List Open → Back → Type 0
   IsClosedTo os o fs (backs.Whole y q) = IsClosing os o fs y q.now
-  IsClosedTo os o fs (backs.Further f q) = GoesOn n hidden os (reversed fs) o f q.now
+  IsClosedTo os o fs (backs.Further f q) = OpensTerm n hidden os (reversed fs) o f q.now
 
   -- what comes of the term inside the innermost that is open
   abbrev pub Comes : Open → Part → List ℕ → Result Back Halt → Type 0
@@ -211,7 +212,7 @@ module _ (n : ℕ) (hidden : List (Symbol Name)) where
 
   on-further : (start : List ℕ) (fs gs hs : List Open) (f : Open) (x : Part) (s r : List ℕ)
       → HasEnded n hidden start fs x s
-      → GoesOn n hidden (reversed fs) (reversed gs) (Got (meant_of x) s) f r → hs ≡ gs ++ f ∷ []
+      → OpensTerm n hidden (reversed fs) (reversed gs) (Got (meant_of x) s) f r → hs ≡ gs ++ f ∷ []
       → IsOn n hidden start hs r
   on-further start fs gs hs f x s r h w e =
       let a : length hs ≡ suc (length gs) = ap length e ∙ length-append gs (f ∷ []) ∙ omega arith in
@@ -259,7 +260,7 @@ module _ (n : ℕ) (hidden : List (Symbol Name)) where
       }
 
   -- memory ran out
-  pub no-memory : (start : List ℕ) (fs : List Open) (r : Result Next Halt) → IsErrAnd r (λ x. x ≡ halts.Memory)
+  pub no-memory : (start : List ℕ) (fs : List Open) (r : Result Next Halt) → IsErrAnd r (λ x. x ≡ halts.Memory ran_out)
       → IsNext n hidden start fs r
   no-memory start fs (Ok x) h = absurd h
   no-memory start fs (Err k) h = subst (λ z. IsHalt z (begun n hidden open_limit [] start)) (sym h) tt
@@ -295,9 +296,9 @@ module _ (n : ℕ) (hidden : List (Symbol Name)) where
   pub on-end : (start : List ℕ) (fs gs : List Open) (x : Part) (s : List ℕ) (r : Result Back Halt)
       → HasEnded n hidden start fs x s
       → (AreKept (reversed fs) → IsMeant (around (frames_of fs)) x → length s ≤ n
-      → IsClosed n hidden (reversed fs) (reversed gs) (Got (meant_of x) s) r) → EndGoes start gs r
+      → ClosesTerm n hidden (reversed fs) (reversed gs) (Got (meant_of x) s) r) → EndGoes start gs r
   on-end start fs gs x s r h w = go r (w h.kept h.meant h.short) where
-    go : (r : Result Back Halt) → IsClosed n hidden (reversed fs) (reversed gs) (Got (meant_of x) s) r
+    go : (r : Result Back Halt) → ClosesTerm n hidden (reversed fs) (reversed gs) (Got (meant_of x) s) r
         → EndGoes start gs r
     go (Ok (backs.Whole y q)) w = (w.0, on-whole start fs x y s q.now h w.1)
     go (Ok (backs.Further f q)) w = λ hs k. on-further start fs gs hs f x s q.now h w k

@@ -24,14 +24,14 @@ use Rattle.ot_parse.specs.Values.{IsMeant, Means, meant_of}
 use Rattle.ot_parse.specs.TermFrames.{First, Body, closed, reads, begun, after, binder_at}
 use Rattle.ot_parse.specs.TermFrames.{binding_reading, named_reading, closed_term, closed_free_at}
 use Rattle.ot_parse.specs.TermFrames.{closed_variable_at, closed_constant_at, is_free_at}
-use Rattle.ot_parse.specs.TermCode.{GoesIn, HasHead, IsLeaf, IsInside, IsFront}
+use Rattle.ot_parse.specs.TermCode.{GoesIn, HasHead, IsLeaf, IsTermFront, IsFront}
 use Rattle.ot_parse.proofs.Halts.{halt-same, halt-next, halt-mapped}
 use Rattle.ot_parse.proofs.TypeFronts.{not-equal}
 use Rattle.ot_parse.proofs.TermLaws.{first-goes, body-goes, binder-first, binder-length, head-goes}
 use Rattle.ot_parse.proofs.TermLaws.{free-goes, inside-first, inside-named, term-empty, term-place, bound_in}
 use Rattle.ot_parse.proofs.TermBacks.{halt-behind, halt-closed}
 
-bare-shorter : (s : List ℕ) (v : Name) (q : List ℕ) → bare_at s ≡ Got v q → length q ≤ length s
+pub bare-shorter : (s : List ℕ) (v : Name) (q : List ℕ) → bare_at s ≡ Got v q → length q ≤ length s
 bare-shorter s v q e =
     let w : IsRead SaysBare bare_at s v q = subst (Follows SaysBare bare_at s) e (bare-reads.follows s) in
     let a = ap length w.is ∙ length-append w.text q in omega (arith, a)
@@ -79,18 +79,18 @@ module _ (n : ℕ) (hidden : List (Symbol Name)) (l : Around) where
   braced m b s e = (λ i. mapped (raw hidden l (place_at n (b ∷ s))) (reads n hidden (suc m) (e i ∷ s)))
 
   pub inside-front : (m k b : ℕ) (s : List ℕ) (r : Result Front Halt) → (m ≡ 0 → ⊥) → b ≡ 40 → k ≡ place_at n (b ∷ s)
-      → IsInside n hidden (m - 1) l (mapped (raw hidden l k) (closed_term hidden (m - 1) s)) r
+      → IsTermFront n hidden (m - 1) l (mapped (raw hidden l k) (closed_term hidden (m - 1) s)) r
       → IsFront n hidden m l (b ∷ s) r
   inside-front zero k b s r p e d h = absurd (p refl)
   inside-front (suc m) k b s r p e d h =
-      go r (subst (λ j. IsInside n hidden j l (mapped (raw hidden l k) (closed_term hidden j s)) r) less h) where
+      go r (subst (λ j. IsTermFront n hidden j l (mapped (raw hidden l k) (closed_term hidden j s)) r) less h) where
         less : suc m - 1 ≡ m
         less = omega arith
 
         same : begun n hidden (suc m) l (b ∷ s) ≡ mapped (raw hidden l k) (closed_term hidden m s)
         same = opened m k b s e d
 
-        go : (r : Result Front Halt) → IsInside n hidden m l (mapped (raw hidden l k) (closed_term hidden m s)) r
+        go : (r : Result Front Halt) → IsTermFront n hidden m l (mapped (raw hidden l k) (closed_term hidden m s)) r
             → IsFront n hidden (suc m) l (b ∷ s) r
         go (Ok (fronts.Leaf x q)) h = (h.0, same ∙ h.1)
         go (Ok (fronts.Inside f q)) h = (
@@ -120,20 +120,20 @@ module _ (n : ℕ) (hidden : List (Symbol Name)) (l : Around) where
   -- ---- behind a parenthesis at place k
   module _ (m : ℕ) where
     pub leaf-inside : (o p : Reading Meaning) (r : Result Front Halt) → o ≡ p → IsLeaf l p r
-        → IsInside n hidden m l o r
+        → IsTermFront n hidden m l o r
     leaf-inside o p (Ok (fronts.Leaf x q)) e h = (h.0, e ∙ h.1)
     leaf-inside o p (Ok (fronts.Inside f q)) e h = absurd h
     leaf-inside o p (Ok (fronts.Head f x q)) e h = absurd h
     leaf-inside o p (Err k) e h = halt-same k p o e h
 
-    pub same-inside : (o p : Reading Meaning) (r : Result Front Halt) → o ≡ p → IsInside n hidden m l p r
-        → IsInside n hidden m l o r
-    same-inside o p r e h = subst (λ z. IsInside n hidden m l z r) (sym e) h
+    pub same-inside : (o p : Reading Meaning) (r : Result Front Halt) → o ≡ p → IsTermFront n hidden m l p r
+        → IsTermFront n hidden m l o r
+    same-inside o p r e h = subst (λ z. IsTermFront n hidden m l z r) (sym e) h
 
     -- an abstraction
     pub binding-inside : (k b : ℕ) (s : List ℕ) (r : Result Front Halt) → b ≡ 92
-        → IsInside n hidden m l (mapped (raw hidden l k) (binding_reading hidden m s)) r
-        → IsInside n hidden m l (mapped (raw hidden l k) (closed_term hidden m (b ∷ s))) r
+        → IsTermFront n hidden m l (mapped (raw hidden l k) (binding_reading hidden m s)) r
+        → IsTermFront n hidden m l (mapped (raw hidden l k) (closed_term hidden m (b ∷ s))) r
     binding-inside k b s r e h = same-inside _ (mapped (raw hidden l k) (binding_reading hidden m s)) r
         (λ i. mapped (raw hidden l k) (closed_term hidden m (e i ∷ s))) h
 
@@ -160,7 +160,7 @@ module _ (n : ℕ) (hidden : List (Symbol Name)) (l : Around) where
     -- a quoted variable
     pub variable-inside : (k b : ℕ) (s : List ℕ) (r : Result Front Halt) → b ≡ 34
         → IsLeaf l (mapped (raw hidden l k) (closed_variable_at hidden m (b ∷ s))) r
-        → IsInside n hidden m l (mapped (raw hidden l k) (closed_term hidden m (b ∷ s))) r
+        → IsTermFront n hidden m l (mapped (raw hidden l k) (closed_term hidden m (b ∷ s))) r
     variable-inside k b s r e h = leaf-inside _ (mapped (raw hidden l k) (closed_variable_at hidden m (34 ∷ s))) r
         (λ i. mapped (raw hidden l k) (closed_term hidden m (e i ∷ s)))
         (subst (λ c. IsLeaf l (mapped (raw hidden l k) (closed_variable_at hidden m (c ∷ s))) r) e h)
@@ -180,8 +180,8 @@ module _ (n : ℕ) (hidden : List (Symbol Name)) (l : Around) where
     -- a bare word
     pub named-inside : (nt : IsNotation hidden) (k b : ℕ) (s : List ℕ) (r : Result Front Halt) → (b ≡ 92 → ⊥)
         → (b ≡ 34 → ⊥) → ((b == 40) || (b == 123)) ≡ false
-        → IsInside n hidden m l (mapped (raw hidden l k) (named_reading hidden m (b ∷ s))) r
-        → IsInside n hidden m l (mapped (raw hidden l k) (closed_term hidden m (b ∷ s))) r
+        → IsTermFront n hidden m l (mapped (raw hidden l k) (named_reading hidden m (b ∷ s))) r
+        → IsTermFront n hidden m l (mapped (raw hidden l k) (closed_term hidden m (b ∷ s))) r
     named-inside nt k b s r q u h w = same-inside _ (mapped (raw hidden l k) (named_reading hidden m (b ∷ s))) r
         (ap (mapped (raw hidden l k)) (inside-named n hidden nt m l b s (not-equal b 92 q) (not-equal b 34 u) h)) w
 
@@ -206,7 +206,7 @@ module _ (n : ℕ) (hidden : List (Symbol Name)) (l : Around) where
     pub free-inside : (nt : IsNotation hidden) (k : ℕ) (s : List ℕ) (v : Name) (q u : List ℕ) (r : Result Front Halt)
         → bare_at s ≡ Got v q → literal_at (codes " ") q ≡ Got tt u → is_free_at v u ≡ true
         → IsLeaf l (mapped (raw hidden l k) (closed_free_at hidden m v u)) r
-        → IsInside n hidden m l (mapped (raw hidden l k) (named_reading hidden m s)) r
+        → IsTermFront n hidden m l (mapped (raw hidden l k) (named_reading hidden m s)) r
     free-inside nt k s v q u r d c f h = leaf-inside _ (mapped (raw hidden l k) (closed_free_at hidden m v u)) r
         (ap (mapped (raw hidden l k)) (free-goes n hidden nt m l s v q u d c f)) h
 

@@ -17,8 +17,8 @@ use Rattle.ot_parse.specs.declared.types.Back.TheVariants as backs
 use Rattle.ot_parse.specs.Gives.{IsHalt}
 use Rattle.ot_logic.specs.PlainTrees.{type_of_tree}
 use Rattle.ot_parse.specs.Frames.{Frame, frame_of, frames_of, closed}
-use Rattle.ot_parse.specs.Frames.{word_first, after, resume, IsFrontOf, IsLeafOf, IsInside}
-use Rattle.ot_parse.specs.Frames.{IsInsideOf, IsBackOf, IsLeft, GoesOn, IsClosed, IsOn}
+use Rattle.ot_parse.specs.Frames.{word_first, after, resume, IsFrontOf, IsLeafOf, IsTypeFront}
+use Rattle.ot_parse.specs.Frames.{IsInsideOf, IsBackOf, IsLeft, OpensType, ClosesType, IsOn}
 use Rattle.ot_parse.proofs.Halts.{halt-same}
 use Rattle.ot_parse.proofs.FrameLaws.{halts as halts-in, opens-word}
 
@@ -80,7 +80,7 @@ module _ (hidden : List (Symbol Name)) where
       (sym e) refl
 
   pub inside-front : (m b : ℕ) (s : List ℕ) (r : Result Front Halt) → (m ≡ 0 → ⊥) → b ≡ 40
-      → ((k : ℕ) → IsInside hidden k s r) → IsFrontOf hidden m (b ∷ s) r
+      → ((k : ℕ) → IsTypeFront hidden k s r) → IsFrontOf hidden m (b ∷ s) r
   inside-front zero b s r p e h = absurd (p refl)
   inside-front (suc m) b s (Ok (fronts.Leaf t q)) p e h = absurd (h 0)
   inside-front (suc m) b s (Ok (fronts.Inside f q)) p e h =
@@ -94,7 +94,7 @@ module _ (hidden : List (Symbol Name)) where
 
   -- ---- behind a parenthesis
   pub word-inside : (m b : ℕ) (s : List ℕ) (r : Result Front Halt) → ((b == 39) || (b == 40)) ≡ false
-      → IsInsideOf (closed (word_first hidden (type_at hidden m) (b ∷ s))) hidden m r → IsInside hidden m (b ∷ s) r
+      → IsInsideOf (closed (word_first hidden (type_at hidden m) (b ∷ s))) hidden m r → IsTypeFront hidden m (b ∷ s) r
   word-inside m b s (Ok (fronts.Leaf t q)) e h = absurd h
   word-inside m b s (Ok (fronts.Inside f q)) e h = opens-word hidden (type_at hidden m) b s e ∙ h
   word-inside m b s (Err k) e h = halt-same k (closed (word_first hidden (type_at hidden m) (b ∷ s)))
@@ -134,7 +134,7 @@ module _ (hidden : List (Symbol Name)) where
   pub left-further : (fs gs : List Frame) (o : Reading (Ty Name)) (g f : Frame) (t : Ty Name) (s r : List ℕ)
       → IsLeft hidden fs (g ∷ gs) o (Got t s)
       → ((m : ℕ) → after hidden (type_at hidden m) g t s
-      ≡ next (type_at hidden m r) (after hidden (type_at hidden m) f)) → GoesOn hidden fs gs o f r
+      ≡ next (type_at hidden m r) (after hidden (type_at hidden m) f)) → OpensType hidden fs gs o f r
   left-further fs gs o g f t s r h e = record {
     popped = h.popped;
     left = h.left;
@@ -148,7 +148,7 @@ module _ (hidden : List (Symbol Name)) where
       (e (h.popped + m)) ∙ halts-in hidden (suc (h.popped + m)) gs NoForm r.now
   left-halt fs gs o g t s (halts.TooManyOpen r) h e m = h.same m ∙ ap (resume hidden (suc (h.popped + m)) gs)
       (e (h.popped + m)) ∙ halts-in hidden (suc (h.popped + m)) gs OneTooMany r.now
-  left-halt fs gs o g t s halts.Memory h e m = tt
+  left-halt fs gs o g t s (halts.Memory memory) h e m = tt
 
   pub frames-push : (fs : List Open) (f : Open) → frames_of (fs ++ f ∷ []) ≡ frame_of f ∷ frames_of fs
   frames-push [] f = refl
@@ -184,7 +184,7 @@ module _ (hidden : List (Symbol Name)) where
 
   pub on-further : (room : ℕ) (text : List ℕ) (fs gs hs : List Open) (f : Open) (t : Ty Name) (rest s r : List ℕ)
       → IsOn hidden room text fs rest → type_at hidden (room - length fs) rest ≡ Got t s
-      → GoesOn hidden (frames_of fs) (frames_of gs) (Got t s) (frame_of f) r → hs ≡ gs ++ f ∷ []
+      → OpensType hidden (frames_of fs) (frames_of gs) (Got t s) (frame_of f) r → hs ≡ gs ++ f ∷ []
       → IsOn hidden room text hs r
   on-further room text fs gs hs f t rest s r h w g e =
       let a : length hs ≡ suc (length gs) = ap length e ∙ length-append gs (f ∷ []) ∙ omega arith in
@@ -209,7 +209,7 @@ module _ (hidden : List (Symbol Name)) where
   on-halt room text fs rest (halts.TooManyOpen r) h e = sym h.same
       ∙ ap (resume hidden (room - length fs) (frames_of fs)) e
       ∙ halts-in hidden (room - length fs) (frames_of fs) OneTooMany r.now
-  on-halt room text fs rest halts.Memory h e = tt
+  on-halt room text fs rest (halts.Memory memory) h e = tt
 
   pub on-closed-halt : (room : ℕ) (text : List ℕ) (fs : List Open) (t : Ty Name) (rest s : List ℕ) (k : Halt)
       → IsOn hidden room text fs rest → type_at hidden (room - length fs) rest ≡ Got t s
@@ -221,7 +221,7 @@ module _ (hidden : List (Symbol Name)) where
   -- ---- what comes of a type that has ended inside the innermost that is open
   abbrev pub IsClosedTo : List Frame → Reading (Ty Name) → List Open → Back → Type 0
   IsClosedTo fs o ys (backs.Whole u q) = IsLeft hidden fs (frames_of ys) o (Got (type_of_tree u) q.now)
-  IsClosedTo fs o ys (backs.Further f q) = GoesOn hidden fs (frames_of ys) o (frame_of f) q.now
+  IsClosedTo fs o ys (backs.Further f q) = OpensType hidden fs (frames_of ys) o (frame_of f) q.now
 
   pub closing-step : (fs : List Frame) (o : Reading (Ty Name)) (xs ys : List Open) (g : Open) (t : Ty Name)
       (s : List ℕ) (v : Back) → xs ≡ ys ++ g ∷ [] → IsLeft hidden fs (frames_of xs) o (Got t s)
@@ -262,7 +262,7 @@ module _ (hidden : List (Symbol Name)) where
 
   pub on-end : (room : ℕ) (text : List ℕ) (fs gs : List Open) (t : Ty Name) (rest s : List ℕ) (r : Result Back Halt)
       → IsOn hidden room text fs rest → type_at hidden (room - length fs) rest ≡ Got t s
-      → IsClosed hidden (frames_of fs) (frames_of gs) (Got t s) r → EndGoes room text gs r
+      → ClosesType hidden (frames_of fs) (frames_of gs) (Got t s) r → EndGoes room text gs r
   on-end room text fs gs t rest s (Ok (backs.Whole u q)) h w e =
       on-whole room text fs t (type_of_tree u) rest s q.now h w e
   on-end room text fs gs t rest s (Ok (backs.Further f q)) h w e =

@@ -18,14 +18,16 @@ use Rattle.ot_logic.specs.declared.tree.Ty as types
 use Rattle.ot_logic.specs.declared.tree.Tm as terms
 use Rattle.ot_laws.proofs.Tests.{tells_names, same_ty-is}
 use Rattle.ot_laws.proofs.Typing.{result_ty-fun}
-use Rattle.ot_forms.specs.declared.fault.TextFault.TheVariants.{BadTypes}
+use Rattle.ot_forms.specs.declared.fault.TextFault.TheVariants.{BadTypes, TooDeep}
 use Rattle.ot_forms.specs.Words.{same_text, base}
 use Rattle.ot_forms.specs.Reading.{with_base}
 use Rattle.ot_forms.specs.Meaning.{Around, types_around, constant_of, has_type, is_typed}
-use Rattle.ot_forms.specs.Meaning.{check, equated, are_alike}
+use Rattle.ot_forms.specs.Meaning.{check, fits, equated, are_alike}
 use Rattle.ot_parse.specs.declared.values.Meant.TheVariants as parts
-use Rattle.ot_logic.specs.PlainTrees.{type_of_tree, tys_of}
-use Rattle.ot_parse.specs.Meant.{equal_of, relation_of, related_at}
+use Rattle.ot_parse.specs.declared.values.Meant.{Meant as Part}
+use Rattle.ot_logic.specs.PlainTrees.{type_of_tree, term_of_tree, tys_of}
+use Rattle.ot_parse.specs.Meant.{Meaning, equal_of, relation_of, related_at}
+use Rattle.ot_parse.specs.Values.{IsProposition, IsWholly}
 
 -- ---- the depth of a row of types
 depth-push : (ts : List (Ty Name)) (t : Ty Name) → depth_all names (tys_of (ts ++ t ∷ []))
@@ -55,6 +57,22 @@ depth-whole n xs i d k p h = let e = ap (λ ys. depth_all names (tys_of (map typ
 pub typed-test : (l : Around) (t : Tm Name) (ty u : Ty Name) → type_in names (types_around l) t ≡ Some ty
     → has_type l t u ≡ same_ty names ty u
 typed-test l t ty u e = ap (λ o. same_ty names (unwrap_or o (bool_ty names)) u) e
+
+-- where a proposition is wanted, a whole part is one
+pub wholly-proposition : (l : Around) (k : ℕ) (m : Meaning) (p : Part) → IsWholly l true k m p → IsProposition p
+wholly-proposition l k m (parts.Wrong j f) h = tt
+wholly-proposition l k (Err e) (parts.Value v) h = let d = h.means in cc
+wholly-proposition l k (Ok t) (parts.Value v) h = go (has_type l t (bool_ty names)) (fits l t) refl h.means where
+  go : (b c : Bool) → has_type l t (bool_ty names) ≡ b
+      → Ok (term_of_tree v.term) ≡ (check k BadTypes b >>= (λ _. check k TooDeep c >>= (λ _. Ok t)))
+      → type_of_tree v.ty ≡ bool_ty names
+  go true true e d =
+      let s : term_of_tree v.term ≡ t = cc in
+      (same_ty-is names tells_names (type_of_tree v.ty) (bool_ty names)).0
+      (sym (typed-test l t (type_of_tree v.ty) (bool_ty names)
+      (ap (type_in names (types_around l)) (sym s) ∙ h.kept.typed)) ∙ e)
+  go true false e d = cc
+  go false c e d = cc
 
 -- ---- equations and operators
 same-turned : (a b : Ty Name) → same_ty names a b ≡ same_ty names b a

@@ -47,7 +47,7 @@ unmapped f (Halted j s) k r e = let p : j ≡ k = cc in let q : s ≡ r = cc in 
 pub unmapped-halt : {A B : Type 0} (f : A → B) (o : Reading A) (h : Halt) → IsHalt h (mapped f o) → IsHalt h o
 unmapped-halt f o (halts.Syntax r) e = unmapped f o NoForm r.now e
 unmapped-halt f o (halts.TooManyOpen r) e = unmapped f o OneTooMany r.now e
-unmapped-halt f o halts.Memory e = tt
+unmapped-halt f o (halts.Memory memory) e = tt
 
 pub record WasRead {A B : Type 0} (f : A → B) (o : Reading A) (y : B) (r : List ℕ) : Type 0 where
   pub value : A
@@ -63,7 +63,7 @@ was-read f (Halted j s) y r e = cc
 pub stopped : (o : Reading Meaning) (h : Halt) → IsHalt h o → IsWholeText o (Err h)
 stopped o (halts.Syntax r) e = inl e
 stopped o (halts.TooManyOpen r) e = e
-stopped o halts.Memory e = tt
+stopped o (halts.Memory memory) e = tt
 
 pub trails : {A : Type 0} (o : Reading A) (x : A) (r : List ℕ) → o ≡ Got x r → (length r ≡ 0 → ⊥) → IsStop o r
 trails o x [] e h = absurd (h refl)
@@ -176,7 +176,7 @@ module _ (hidden : List (Symbol Name)) where
           go : (h : Halt) → IsHalt h (line_at (terms hidden) line) → IsWholeLine hidden line (Err h)
           go (halts.Syntax r) k = inl k
           go (halts.TooManyOpen r) k = k
-          go halts.Memory k = tt
+          go (halts.Memory memory) k = tt
 
     pub concl-halt : (ts : Kept) (rest : List ℕ) (h : Halt) → hyps_meant hidden line ≡ Got ts rest
         → IsWholeText (meant_at hidden (length line) true rest) (Err h) → IsWholeLine hidden line (Err h)
@@ -213,13 +213,13 @@ module _ (hidden : List (Symbol Name)) where
           → IsWholeLine hidden line (Err h)
       go (halts.Syntax r) d = trailed r.now d (λ a. halted (halts.Syntax r) a)
       go (halts.TooManyOpen r) d = halted (halts.TooManyOpen r) d
-      go halts.Memory d = tt
+      go (halts.Memory memory) d = tt
 
   pub line-means : (line : List ℕ) (ts : Kept) (x : Meaning) (r : Result Readable ReadRefusal) → IsLineRead line ts x
       → IsSequent (sequent_meant ts x) r → IsMeantLine hidden line r
   line-means line ts x (Ok r) h e = (h.written, h.read, h.means ∙ e)
   line-means line ts x (Err (refusals.At c f)) h e = (h.written, e.0, h.read, h.means ∙ e.1, e.2)
-  line-means line ts x (Err refusals.Memory) h e = tt
+  line-means line ts x (Err (refusals.Memory memory)) h e = tt
 
   -- ---- the front of a line
   pub nothing-hyps : (s : List ℕ) → length s ≡ 0 → hyps_meant hidden s ≡ Halted NoForm s
@@ -410,4 +410,4 @@ module _ (hidden : List (Symbol Name)) where
 pub wrong-sequent : (m : Result (Sequent Name) Refusal) (k : ℕ) (f : TextFault) (r : ReadRefusal) → m ≡ Err (k, f)
     → IsAt k f r → IsSequent m (Err r)
 wrong-sequent m k f (refusals.At c g) e d = (k, e ∙ ap (λ z. Err (k, z)) (sym d.1), d.0)
-wrong-sequent m k f refusals.Memory e d = tt
+wrong-sequent m k f (refusals.Memory memory) e d = tt

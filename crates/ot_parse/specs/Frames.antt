@@ -93,8 +93,8 @@ IsInsideOf o hidden m (Ok (fronts.Inside f r)) =
 IsInsideOf o hidden m (Err h) = IsHalt h o
 
 -- what is open behind a parenthesis
-abbrev pub IsInside : List (Symbol Name) → ℕ → List ℕ → Result Front Halt → Type 0
-IsInside hidden m s = IsInsideOf (closed_type_at hidden (type_at hidden m) s) hidden m
+abbrev pub IsTypeFront : List (Symbol Name) → ℕ → List ℕ → Result Front Halt → Type 0
+IsTypeFront hidden m s = IsInsideOf (closed_type_at hidden (type_at hidden m) s) hidden m
 
 -- of what is open so much stays open, and what was read goes on so
 pub record IsLeft (hidden : List (Symbol Name)) (fs gs : List Frame) (o p : Reading (Ty Name)) : Type 0 where
@@ -103,16 +103,16 @@ pub record IsLeft (hidden : List (Symbol Name)) (fs gs : List Frame) (o p : Read
   pub same : (m : ℕ) → resume hidden m fs o ≡ resume hidden (popped + m) gs p
 
 -- a further type is read inside this and what stays open
-pub record GoesOn (hidden : List (Symbol Name)) (fs gs : List Frame) (o : Reading (Ty Name)) (f : Frame)
+pub record OpensType (hidden : List (Symbol Name)) (fs gs : List Frame) (o : Reading (Ty Name)) (f : Frame)
     (r : List ℕ) : Type 0 where
   pub popped : ℕ
   pub left : length fs ≡ popped + suc (length gs)
   pub same : (m : ℕ) → resume hidden m fs o ≡ resume hidden (popped + m) (f ∷ gs) (type_at hidden (popped + m) r)
 
-abbrev pub IsClosed : List (Symbol Name) → List Frame → List Frame → Reading (Ty Name) → Result Back Halt → Type 0
-IsClosed hidden fs gs o (Ok (backs.Whole t r)) = (m : ℕ) → resume hidden m fs o ≡ Got (type_of_tree t) r.now
-IsClosed hidden fs gs o (Ok (backs.Further f r)) = GoesOn hidden fs gs o (frame_of f) r.now
-IsClosed hidden fs gs o (Err h) = (m : ℕ) → IsHalt h (resume hidden m fs o)
+abbrev pub ClosesType : List (Symbol Name) → List Frame → List Frame → Reading (Ty Name) → Result Back Halt → Type 0
+ClosesType hidden fs gs o (Ok (backs.Whole t r)) = (m : ℕ) → resume hidden m fs o ≡ Got (type_of_tree t) r.now
+ClosesType hidden fs gs o (Ok (backs.Further f r)) = OpensType hidden fs gs o (frame_of f) r.now
+ClosesType hidden fs gs o (Err h) = (m : ℕ) → IsHalt h (resume hidden m fs o)
 
 -- what comes of a type that has ended inside this
 abbrev pub IsBackOf : List (Symbol Name) → ℕ → Frame → Ty Name → List ℕ → Result Back Halt → Type 0
@@ -133,3 +133,19 @@ abbrev pub IsNext : List (Symbol Name) → ℕ → List ℕ → List Open → Re
 IsNext hidden room start fs (Ok (nexts.Begins r)) = IsOn hidden room start fs r.now
 IsNext hidden room start fs (Ok (nexts.Ended t r)) = type_at hidden room start ≡ Got (type_of_tree t) r.now
 IsNext hidden room start fs (Err h) = IsHalt h (type_at hidden room start)
+
+-- ---- each turn passes bytes
+-- fewer than so many bytes are left where a type inside is read
+abbrev pub OpensWithin : ℕ → Front → Type 0
+OpensWithin n (fronts.Leaf t r) = Unit {0}
+OpensWithin n (fronts.Inside f r) = length r.now < n
+
+-- no more than so many are left behind a type, and fewer where a further one is read
+abbrev pub EndsWithin : ℕ → Back → Type 0
+EndsWithin n (backs.Whole t r) = length r.now ≤ n
+EndsWithin n (backs.Further f r) = length r.now < n
+
+-- fewer than so many are left where the next type begins
+abbrev pub BeginsWithin : ℕ → Next → Type 0
+BeginsWithin n (nexts.Begins r) = length r.now < n
+BeginsWithin n (nexts.Ended t r) = Unit {0}

@@ -12,12 +12,12 @@ use Rattle.ot_parse.specs.declared.spelling.Parts.{Parts}
 abbrev pub IsHalt : {A : Type 0} → Halt → Reading A → Type 0
 IsHalt (halts.Syntax r) o = o ≡ Halted NoForm r.now
 IsHalt (halts.TooManyOpen r) o = o ≡ Halted OneTooMany r.now
-IsHalt halts.Memory o = Unit {0}
+IsHalt (halts.Memory memory) o = Unit {0}
 
 -- the value and the bytes behind it are those that are read, unless memory ran out
-abbrev pub Gives : {X A : Type 0} → (X → A) → (X → List ℕ) → Result X Halt → Reading A → Type 0
-Gives value rest (Ok x) o = o ≡ Got (value x) (rest x)
-Gives value rest (Err h) o = IsHalt h o
+abbrev pub IsReadAs : {X A : Type 0} → (X → A) → (X → List ℕ) → Result X Halt → Reading A → Type 0
+IsReadAs value rest (Ok x) o = o ≡ Got (value x) (rest x)
+IsReadAs value rest (Err h) o = IsHalt h o
 
 -- a name without quotes or behind its opening quote; behind a byte of a part or not
 abbrev pub name_at : Bool → Bool → List ℕ → Reading Name

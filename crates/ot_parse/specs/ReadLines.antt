@@ -23,6 +23,7 @@ use Rattle.ot_parse.specs.declared.refusal.ReadRefusal.{ReadRefusal}
 use Rattle.ot_parse.specs.declared.refusal.ReadRefusal.TheVariants as refusals
 use Rattle.ot_parse.specs.declared.values.Meant.{Meant as Part}
 use Rattle.ot_logic.specs.PlainTrees.{term_of_tree}
+use Rattle.ot_logic.specs.RanOut.{ran_out}
 use Rattle.ot_parse.specs.Plain.{sequent_of}
 use Rattle.ot_parse.specs.Symbols.{behind_byte}
 use Rattle.ot_parse.specs.Meant.{Meaning, place_at}
@@ -87,18 +88,18 @@ abbrev pub IsWholeText : Reading Meaning → Result Part Halt → Type 0
 IsWholeText o (Ok x) = o ≡ Got (meant_of x) []
 IsWholeText o (Err (halts.Syntax r)) = IsStop o r.now
 IsWholeText o (Err (halts.TooManyOpen r)) = o ≡ Halted OneTooMany r.now
-IsWholeText o (Err halts.Memory) = Unit {0}
+IsWholeText o (Err (halts.Memory memory)) = Unit {0}
 
 -- the refusal of a part that begins at this place, from 0
 abbrev pub IsAt : ℕ → TextFault → ReadRefusal → Type 0
 IsAt k f (refusals.At c g) = (c ≡ k + 1) × (g ≡ f)
-IsAt k f refusals.Memory = Unit {0}
+IsAt k f (refusals.Memory memory) = Unit {0}
 
 -- the refusal of a text where reading halts
 abbrev pub IsHaltedAt : List ℕ → Halt → ReadRefusal → Type 0
 IsHaltedAt text (halts.Syntax r) e = IsAt (length text - length r.now) Syntax e
 IsHaltedAt text (halts.TooManyOpen r) e = IsAt (length text - length r.now) TooManyOpen e
-IsHaltedAt text halts.Memory e = e ≡ refusals.Memory
+IsHaltedAt text (halts.Memory memory) e = e ≡ refusals.Memory ran_out
 
 -- what these hypotheses and this conclusion mean together
 abbrev pub sequent_meant : Kept → Meaning → Result (Sequent Name) Refusal
@@ -110,7 +111,7 @@ sequent_meant r m = do
 abbrev pub IsSequent : Result (Sequent Name) Refusal → Result Readable ReadRefusal → Type 0
 IsSequent m (Ok r) = m ≡ Ok (sequent_of r)
 IsSequent m (Err (refusals.At c f)) = (k : ℕ) × (m ≡ Err (k, f)) × (c ≡ k + 1)
-IsSequent m (Err refusals.Memory) = Unit {0}
+IsSequent m (Err (refusals.Memory memory)) = Unit {0}
 
 -- a line was read, with what it means
 abbrev pub IsMeantLine : List (Symbol Name) → List ℕ → Result Readable ReadRefusal → Type 0
@@ -118,10 +119,10 @@ IsMeantLine hidden line (Ok r) = (q : WrittenSequent) × (line_at (terms hidden)
     × (line_meaning hidden q ≡ Ok (sequent_of r))
 IsMeantLine hidden line (Err (refusals.At c f)) = (q : WrittenSequent) × (k : ℕ)
     × (line_at (terms hidden) line ≡ Got q []) × (line_meaning hidden q ≡ Err (k, f)) × (c ≡ k + 1)
-IsMeantLine hidden line (Err refusals.Memory) = Unit {0}
+IsMeantLine hidden line (Err (refusals.Memory memory)) = Unit {0}
 
 abbrev pub IsWholeLine : List (Symbol Name) → List ℕ → Result (Result Readable ReadRefusal) Halt → Type 0
 IsWholeLine hidden line (Ok r) = IsMeantLine hidden line r
 IsWholeLine hidden line (Err (halts.Syntax r)) = IsStop (line_at (terms hidden) line) r.now
 IsWholeLine hidden line (Err (halts.TooManyOpen r)) = line_at (terms hidden) line ≡ Halted OneTooMany r.now
-IsWholeLine hidden line (Err halts.Memory) = Unit {0}
+IsWholeLine hidden line (Err (halts.Memory memory)) = Unit {0}

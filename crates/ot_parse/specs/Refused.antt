@@ -8,8 +8,8 @@ use Rattle.ot_parse.specs.declared.refusal.ReadRefusal.TheVariants as refusals
 
 abbrev pub IsRefusal : List (Symbol Name) → List ℕ → ReadRefusal → Type 0
 IsRefusal hidden line (refusals.At column fault) = (0 < column) × IsRefused hidden line (column - 1) fault
-IsRefusal hidden line refusals.Memory = Unit {0}
+IsRefusal hidden line (refusals.Memory memory) = Unit {0}
 
 abbrev pub IsTermRefusal : List (Symbol Name) → List ℕ → ReadRefusal → Type 0
 IsTermRefusal hidden text (refusals.At column fault) = (0 < column) × IsTermRefused hidden text (column - 1) fault
-IsTermRefusal hidden text refusals.Memory = Unit {0}
+IsTermRefusal hidden text (refusals.Memory memory) = Unit {0}

@@ -1,5 +1,5 @@
 -- What the code keeps of terms that are read, and what its answers say.
-use Rattle.std.specs.Prelude.{◌≡◌, ◌≤◌, ◌<◌, ◌+◌, ◌-◌, ℕ, suc, length, List, [], ◌∷◌, ◌++◌, map, Result, Ok, Err}
+use Rattle.std.specs.Prelude.{◌≡◌, ◌≤◌, ◌<◌, ◌+◌, ◌-◌, ℕ, suc, true, length, List, [], ◌∷◌, ◌++◌, map, Result, Ok, Err}
 use Rattle.ot_logic.specs.Names.{Name}
 use Rattle.ot_logic.specs.Trees.{Symbol}
 use Rattle.ot_forms.specs.Meaning.{Around}
@@ -17,8 +17,8 @@ use Rattle.ot_parse.specs.declared.terms.Next.TheVariants as nexts
 use Rattle.ot_parse.specs.declared.values.Meant.{Meant as Part}
 use Rattle.ot_logic.specs.PlainTrees.{type_of_tree}
 use Rattle.ot_parse.specs.Gives.{IsHalt}
-use Rattle.ot_parse.specs.Meant.{Meaning}
-use Rattle.ot_parse.specs.Values.{IsMeant, meant_of}
+use Rattle.ot_parse.specs.Meant.{Meaning, is_relation}
+use Rattle.ot_parse.specs.Values.{IsMeant, IsProposition, meant_of}
 use Rattle.ot_parse.specs.TermFrames.{TermFrame, First, Right, Argument, Body, inner_of, around, begun, after, resume}
 
 -- what the code's frames stand for
@@ -36,10 +36,10 @@ reversed (x ∷ xs) = reversed xs ++ x ∷ []
 abbrev pub frames_of : List Open → List TermFrame
 frames_of os = map frame_of (reversed os)
 
--- what is kept of types, under these abstractions
+-- what is kept of types, under these abstractions: the sides of a relation are propositions
 abbrev pub IsKept : Around → Open → Type 0
 IsKept l (opens.First k p) = p ≡ k + 1
-IsKept l (opens.Right k p o x) = IsMeant l x
+IsKept l (opens.Right k p o x) = IsMeant l x × (is_relation o.now ≡ true → IsProposition x)
 IsKept l (opens.Argument k p f) = IsMeant l f
 IsKept l (opens.Body p x t) = Unit {0}
 
@@ -69,11 +69,11 @@ pub record HasHead (n : ℕ) (hidden : List (Symbol Name)) (m : ℕ) (l : Around
   pub same : o ≡ after n hidden m l (frame_of f) (meant_of x) r
 
 -- the front of a term, where this is read under these abstractions with room for so many inside
-abbrev pub IsInside : ℕ → List (Symbol Name) → ℕ → Around → Reading Meaning → Result Front Halt → Type 0
-IsInside n hidden m l o (Ok (fronts.Leaf x r)) = IsMeant l x × (o ≡ Got (meant_of x) r.now)
-IsInside n hidden m l o (Ok (fronts.Inside f r)) = GoesIn n hidden m l o f r.now
-IsInside n hidden m l o (Ok (fronts.Head f x r)) = HasHead n hidden m l o f x r.now
-IsInside n hidden m l o (Err h) = IsHalt h o
+abbrev pub IsTermFront : ℕ → List (Symbol Name) → ℕ → Around → Reading Meaning → Result Front Halt → Type 0
+IsTermFront n hidden m l o (Ok (fronts.Leaf x r)) = IsMeant l x × (o ≡ Got (meant_of x) r.now)
+IsTermFront n hidden m l o (Ok (fronts.Inside f r)) = GoesIn n hidden m l o f r.now
+IsTermFront n hidden m l o (Ok (fronts.Head f x r)) = HasHead n hidden m l o f x r.now
+IsTermFront n hidden m l o (Err h) = IsHalt h o
 
 abbrev pub IsFront : ℕ → List (Symbol Name) → ℕ → Around → List ℕ → Result Front Halt → Type 0
 IsFront n hidden m l s (Ok (fronts.Leaf x r)) = IsMeant l x × (begun n hidden m l s ≡ Got (meant_of x) r.now)
@@ -83,13 +83,13 @@ IsFront n hidden m l s (Ok (fronts.Head f x r)) =
 IsFront n hidden m l s (Err h) = IsHalt h (begun n hidden m l s)
 
 -- what comes of a term that has ended, where this is read
-pub record IsWhole (n : ℕ) (l : Around) (o : Reading Meaning) (y : Part) (r : List ℕ) : Type 0 where
+pub record IsWholeTerm (n : ℕ) (l : Around) (o : Reading Meaning) (y : Part) (r : List ℕ) : Type 0 where
   pub within : length r ≤ n
   pub meant : IsMeant l y
   pub same : o ≡ Got (meant_of y) r
 
 abbrev pub IsBack : ℕ → List (Symbol Name) → ℕ → Around → Reading Meaning → Result Back Halt → Type 0
-IsBack n hidden m l o (Ok (backs.Whole y r)) = IsWhole n l o y r.now
+IsBack n hidden m l o (Ok (backs.Whole y r)) = IsWholeTerm n l o y r.now
 IsBack n hidden m l o (Ok (backs.Further g r)) = GoesIn n hidden m l o g r.now
 IsBack n hidden m l o (Err h) = IsHalt h o
 
@@ -100,7 +100,7 @@ pub record IsLeft (n : ℕ) (hidden : List (Symbol Name)) (os ps : List Open) (o
   pub same : (m : ℕ) → resume n hidden m (map frame_of os) o ≡ resume n hidden (popped + m) (map frame_of ps) p
 
 -- a further term is read inside this and what stays open
-pub record GoesOn (n : ℕ) (hidden : List (Symbol Name)) (os ps : List Open) (o : Reading Meaning) (g : Open)
+pub record OpensTerm (n : ℕ) (hidden : List (Symbol Name)) (os ps : List Open) (o : Reading Meaning) (g : Open)
     (r : List ℕ) : Type 0 where
   pub popped : ℕ
   pub left : length os ≡ popped + suc (length ps)
@@ -111,11 +111,11 @@ pub record GoesOn (n : ℕ) (hidden : List (Symbol Name)) (os ps : List Open) (o
       (frame_of g ∷ map frame_of ps)
       (begun n hidden (popped + m) (inner_of (frame_of g) (around (map frame_of ps))) r)
 
-abbrev pub IsClosed : ℕ → List (Symbol Name) → List Open → List Open → Reading Meaning → Result Back Halt → Type 0
-IsClosed n hidden os ps o (Ok (backs.Whole y r)) =
+abbrev pub ClosesTerm : ℕ → List (Symbol Name) → List Open → List Open → Reading Meaning → Result Back Halt → Type 0
+ClosesTerm n hidden os ps o (Ok (backs.Whole y r)) =
     IsMeant [] y × ((m : ℕ) → resume n hidden m (map frame_of os) o ≡ Got (meant_of y) r.now)
-IsClosed n hidden os ps o (Ok (backs.Further g r)) = GoesOn n hidden os ps o g r.now
-IsClosed n hidden os ps o (Err h) = (m : ℕ) → IsHalt h (resume n hidden m (map frame_of os) o)
+ClosesTerm n hidden os ps o (Ok (backs.Further g r)) = OpensTerm n hidden os ps o g r.now
+ClosesTerm n hidden os ps o (Err h) = (m : ℕ) → IsHalt h (resume n hidden m (map frame_of os) o)
 
 -- ---- the loop over the terms of a text
 -- so much is open where the rest begins
@@ -141,3 +141,20 @@ IsNext n hidden start fs (Ok (nexts.Begins r)) = IsOn n hidden start fs r.now
 IsNext n hidden start fs (Ok (nexts.Ended x r)) =
     IsMeant [] x × (begun n hidden open_limit [] start ≡ Got (meant_of x) r.now)
 IsNext n hidden start fs (Err h) = IsHalt h (begun n hidden open_limit [] start)
+
+-- ---- each turn passes bytes
+-- fewer than so many bytes are left where a term inside is read, or behind the first term inside
+abbrev pub OpensWithin : ℕ → Front → Type 0
+OpensWithin n (fronts.Leaf x r) = Unit {0}
+OpensWithin n (fronts.Inside f r) = length r.now < n
+OpensWithin n (fronts.Head f x r) = length r.now < n
+
+-- no more than so many are left behind a term, and fewer where a further one is read
+abbrev pub EndsWithin : ℕ → Back → Type 0
+EndsWithin n (backs.Whole y r) = length r.now ≤ n
+EndsWithin n (backs.Further g r) = length r.now < n
+
+-- fewer than so many are left where the next term begins
+abbrev pub BeginsWithin : ℕ → Next → Type 0
+BeginsWithin n (nexts.Begins r) = length r.now < n
+BeginsWithin n (nexts.Ended x r) = Unit {0}

@@ -4,7 +4,7 @@ use Rattle.std.specs.Prelude.{slice_get, Option, Some, None, Result, Ok, Err}
 use Rattle.ot_logic.specs.Names.{Name}
 use Rattle.ot_logic.specs.Naming.{names}
 use Rattle.ot_logic.specs.Trees.{Ty, Tm, App}
-use Rattle.ot_logic.specs.Hol.{type_in, depth_ty, depth_tm, depth_limit, has_shallow_types}
+use Rattle.ot_logic.specs.Hol.{bool_ty, type_in, depth_ty, depth_tm, depth_limit, has_shallow_types}
 use Rattle.ot_logic.specs.declared.memory.Memory.{Memory}
 use Rattle.ot_forms.specs.Meaning.{Around, types_around, is_typed}
 use Rattle.ot_parse.specs.declared.values.Value.{Value}
@@ -36,6 +36,11 @@ abbrev pub meant_of : Part → Meaning
 meant_of (parts.Value v) = Ok (term_of_tree v.term)
 meant_of (parts.Wrong k f) = Err (k, f)
 
+-- a proposition, unless it is wrong
+abbrev pub IsProposition : Part → Type 0
+IsProposition (parts.Value v) = type_of_tree v.ty ≡ bool_ty names
+IsProposition (parts.Wrong k f) = Unit {0}
+
 -- the code's part has this meaning
 pub record Means (l : Around) (m : Meaning) (p : Part) : Type 0 where
   pub means : meant_of p ≡ m
@@ -56,3 +61,9 @@ IsRelated l t (Err e) = Unit {0}
 
 abbrev pub IsApplied : Around → Tm Name → Tm Name → Result (Option Value) Memory → Type 0
 IsApplied l f x = IsRelated l (App f x)
+
+-- an application of this type
+pub record IsAppliedAs (l : Around) (f x : Tm Name) (t : Ty Name) (v : Value) : Type 0 where
+  pub term : term_of_tree v.term ≡ App f x
+  pub type : type_of_tree v.ty ≡ t
+  pub kept : IsValue l v

@@ -1,5 +1,6 @@
 ghost use Rattle.std.specs.Prelude.{◌≡◌};
 ghost use Rattle.ot_parse.specs.declared.halt.Halt.TheVariants.{Memory as OutOfMemory};
+ghost use Rattle.ot_logic.specs.RanOut.{ran_out};
 
 use ot_logic::Memory;
 use std::alloc::{AllocError, AllocFailed};
@@ -11,29 +12,29 @@ pub(crate) enum Halt<'a> {
     Syntax(&'a [u8]),
     /// The next byte opens one parenthesis or brace too many.
     TooManyOpen(&'a [u8]),
-    Memory,
+    Memory(Memory),
 }
 
 impl From<AllocError> for Halt<'_> {
-    ghost from_gives = { λ _ e. e ≡ OutOfMemory };
+    ghost from_gives = { λ _ e. e ≡ OutOfMemory ran_out };
 
-    fn from(_: AllocError) -> Self {
-        Halt::Memory
+    fn from(refused: AllocError) -> Self {
+        Halt::Memory(Memory::from(refused))
     }
 }
 
 impl<T: Drop> From<AllocFailed<T>> for Halt<'_> {
-    ghost from_gives = { λ _ e. e ≡ OutOfMemory };
+    ghost from_gives = { λ _ e. e ≡ OutOfMemory ran_out };
 
-    fn from(_: AllocFailed<T>) -> Self {
-        Halt::Memory
+    fn from(refused: AllocFailed<T>) -> Self {
+        Halt::Memory(Memory::from(refused))
     }
 }
 
 impl From<Memory> for Halt<'_> {
-    ghost from_gives = { λ _ e. e ≡ OutOfMemory };
+    ghost from_gives = { λ _ e. e ≡ OutOfMemory ran_out };
 
-    fn from(_: Memory) -> Self {
-        Halt::Memory
+    fn from(memory: Memory) -> Self {
+        Halt::Memory(memory)
     }
 }

@@ -1,14 +1,14 @@
 //! Parts and operator words in a text.
 ghost use Rattle.std.specs.Prelude.{◌≡◌, ◌≤◌, length, take, drop};
 ghost use Rattle.ot_forms.specs.Reading.{Got, part_at, part_on, signs_at, signs_on};
-ghost use Rattle.ot_parse.specs.Gives.{Gives};
+ghost use Rattle.ot_parse.specs.Gives.{IsReadAs};
 
 use crate::halt::Halt;
 use crate::words::{is_inner, is_letter, is_sign};
 
 /// A part, and the bytes behind it.
 pub(crate) fn part(text: &[u8]) -> Result<(&[u8], &[u8]), Halt<'_>>
-    ensures { Gives (λ x. x.0.now) (λ x. x.1.now) result (part_at text.now) }
+    ensures { IsReadAs (λ x. x.0.now) (λ x. x.1.now) result (part_at text.now) }
 {
     match text {
         [] => Err(Halt::Syntax(text)),
@@ -37,7 +37,7 @@ fn inner_len(text: &[u8]) -> usize
 
 /// An operator word or `=`, and the bytes behind it.
 pub(crate) fn signs(text: &[u8]) -> Result<(&[u8], &[u8]), Halt<'_>>
-    ensures { Gives (λ x. x.0.now) (λ x. x.1.now) result (signs_at text.now) }
+    ensures { IsReadAs (λ x. x.0.now) (λ x. x.1.now) result (signs_at text.now) }
 {
     match text {
         [] => Err(Halt::Syntax(text)),

@@ -6,7 +6,7 @@ ghost use Rattle.ot_parse.specs.Plain.{sequent_of};
 ghost use Rattle.ot_parse.specs.Refused.{IsRefusal, IsTermRefusal};
 ghost use Rattle.ot_forms.specs.Meaning.{meanings};
 ghost use Rattle.ot_forms.specs.Reading.{mapped, first_hyp_at};
-ghost use Rattle.ot_parse.specs.Gives.{Gives};
+ghost use Rattle.ot_parse.specs.Gives.{IsReadAs};
 ghost use Rattle.ot_parse.specs.Values.{meant_of};
 ghost use Rattle.ot_parse.specs.ReadLines.{kept_of, others, once, one_more, IsKept, terms, meant_at};
 ghost use Rattle.ot_parse.specs.ReadLines.{hyps_meant, sequent_meant, IsSequent, IsWholeText};
@@ -76,7 +76,7 @@ fn read_one<'a>(
     text: &'a [u8],
 ) -> Result<(Meant, &'a [u8]), Halt<'a>>
     requires { length text.now ≤ total }
-    ensures read { Gives (λ x. meant_of x.0) (λ x. x.1.now) result (meant_at notation.now total wanted text.now) }
+    ensures read { IsReadAs (λ x. meant_of x.0) (λ x. x.1.now) result (meant_at notation.now total wanted text.now) }
     ensures shorter { IfOk result (λ x. length x.1.now ≤ length text.now) }
 {
     notation.sound();
@@ -147,7 +147,7 @@ fn read_hyps<'a>(
     notation: &Notation,
     line: &'a [u8],
 ) -> Result<(Hyps, &'a [u8]), Halt<'a>>
-    ensures read { Gives (λ x. kept_of x.0) (λ x. x.1.now) result (hyps_meant notation.now line.now) }
+    ensures read { IsReadAs (λ x. kept_of x.0) (λ x. x.1.now) result (hyps_meant notation.now line.now) }
     ensures shorter { IfOk result (λ x. length x.1.now ≤ length line.now) }
 {
     match line.split_first() {
@@ -171,7 +171,7 @@ fn read_some_hyps<'a>(
     notation: &Notation,
     line: &'a [u8],
 ) -> Result<(Hyps, &'a [u8]), Halt<'a>>
-    ensures read { Gives (λ x. kept_of x.0) (λ x. x.1.now) result
+    ensures read { IsReadAs (λ x. kept_of x.0) (λ x. x.1.now) result
         (mapped (λ hs. once (meanings notation.now 0 hs)) (first_hyp_at (terms notation.now) line.now)) }
     ensures shorter { IfOk result (λ x. length x.1.now ≤ length line.now) }
 {
@@ -184,7 +184,7 @@ fn read_some_hyps<'a>(
             Ok((term, end)) => match separator(end) {
                 Err(halt) => return Err(halt),
                 Ok((is_further, next)) => match with_term(hyps, term) {
-                    Err(_) => return Err(Halt::Memory),
+                    Err(memory) => return Err(Halt::Memory(memory)),
                     Ok(more) => {
                         if !is_further {
                             return Ok((more, next));
@@ -200,7 +200,7 @@ fn read_some_hyps<'a>(
 
 /// Behind a hypothesis stands a comma, so that a further one follows, or the turnstile.
 fn separator(text: &[u8]) -> Result<(bool, &[u8]), Halt<'_>>
-    ensures { Gives (λ x. x.0) (λ x. x.1.now) result (separator_at text.now) }
+    ensures { IsReadAs (λ x. x.0) (λ x. x.1.now) result (separator_at text.now) }
 {
     match behind(44, text) {
         Some(after) => Ok((true, literal(after, b" ")?)),
@@ -237,9 +237,9 @@ fn without(terms: Vec<Tm>, term: &Tm) -> Vec<Tm>
 fn wrong_at(place: u64, fault: TextFault) -> ReadRefusal
     ensures { IsAt place fault result }
 {
-    match place.checked_add(1) {
-        Some(column) => ReadRefusal::At { column, fault },
-        None => ReadRefusal::Memory,
+    match Memory::next(place) {
+        Ok(column) => ReadRefusal::At { column, fault },
+        Err(memory) => ReadRefusal::Memory(memory),
     }
 }
 
@@ -250,6 +250,6 @@ fn halted_at(line: &[u8], halt: Halt<'_>) -> ReadRefusal
     match halt {
         Halt::Syntax(rest) => wrong_at(place_of(line.len(), rest), TextFault::Syntax),
         Halt::TooManyOpen(rest) => wrong_at(place_of(line.len(), rest), TextFault::TooManyOpen),
-        Halt::Memory => ReadRefusal::Memory,
+        Halt::Memory(memory) => ReadRefusal::Memory(memory),
     }
 }

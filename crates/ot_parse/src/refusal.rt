@@ -1,4 +1,5 @@
 use ot_forms::TextFault;
+use ot_logic::Memory;
 
 /// Why a text isn't read.
 #[derive(Clone, Copy, Debug, PartialEq, Eq)]
@@ -6,5 +7,5 @@ pub enum ReadRefusal {
     /// The column, from 1, of the byte that the fault names.
     At { column: u64, fault: TextFault },
     /// Memory ran out.
-    Memory,
+    Memory(Memory),
 }

@@ -4,7 +4,7 @@ ghost use Rattle.ot_logic.specs.Names.{Name as NameValue};
 ghost use Rattle.ot_forms.specs.Words.{is_bare as bare_test};
 ghost use Rattle.ot_forms.specs.Reading.{before, literal_at, is_special as special_test, bare_at};
 ghost use Rattle.ot_forms.specs.Reading.{bare_on, spelled_at, escaped_at, quoted_at, variable_at};
-ghost use Rattle.ot_parse.specs.Gives.{Gives, name_at, piece_reading, glued};
+ghost use Rattle.ot_parse.specs.Gives.{IsReadAs, name_at, piece_reading, glued};
 ghost use Rattle.ot_parse.specs.Pieces.{IsShorter};
 
 use crate::halt::Halt;
@@ -72,7 +72,7 @@ impl Parts {
 
 /// The bytes behind the wanted ones.
 pub(crate) fn literal<'a>(text: &'a [u8], wanted: &[u8]) -> Result<&'a [u8], Halt<'a>>
-    ensures { Gives (λ _. tt) (λ r. r.now) result (literal_at wanted.now text.now) }
+    ensures { IsReadAs (λ _. tt) (λ r. r.now) result (literal_at wanted.now text.now) }
 {
     match wanted {
         [] => Ok(text),
@@ -95,7 +95,7 @@ fn read_name<'a>(
     is_quoted: bool,
     text: &'a [u8],
 ) -> Result<(Name, &'a [u8]), Halt<'a>>
-    ensures { Gives (λ x. x.0) (λ x. x.1.now) result (name_at is_quoted false text.now) }
+    ensures { IsReadAs (λ x. x.0) (λ x. x.1.now) result (name_at is_quoted false text.now) }
 {
     let mut parts = Parts::new(alloc);
     let mut is_inside = false;
@@ -215,21 +215,21 @@ fn is_special(byte: u8) -> bool
 
 /// The name of a bare word, and the bytes behind it.
 pub(crate) fn bare(alloc: Global, text: &[u8]) -> Result<(Name, &[u8]), Halt<'_>>
-    ensures { Gives (λ x. x.0) (λ x. x.1.now) result (bare_at text.now) }
+    ensures { IsReadAs (λ x. x.0) (λ x. x.1.now) result (bare_at text.now) }
 {
     read_name(alloc, false, text)
 }
 
 /// The name that is spelled, and the bytes from its closing quote on. The opening quote stands before the text.
 pub(crate) fn spelled(alloc: Global, text: &[u8]) -> Result<(Name, &[u8]), Halt<'_>>
-    ensures { Gives (λ x. x.0) (λ x. x.1.now) result (spelled_at text.now) }
+    ensures { IsReadAs (λ x. x.0) (λ x. x.1.now) result (spelled_at text.now) }
 {
     read_name(alloc, true, text)
 }
 
 /// The name whose word stands at the front as a variable's, and the bytes behind it.
 pub(crate) fn variable_word(alloc: Global, text: &[u8]) -> Result<(Name, &[u8]), Halt<'_>>
-    ensures { Gives (λ x. x.0) (λ x. x.1.now) result (variable_at text.now) }
+    ensures { IsReadAs (λ x. x.0) (λ x. x.1.now) result (variable_at text.now) }
 {
     match text {
         [] => Err(Halt::Syntax(text)),
@@ -245,7 +245,7 @@ pub(crate) fn variable_word(alloc: Global, text: &[u8]) -> Result<(Name, &[u8]),
 
 /// A variable's spelling behind its opening quote.
 fn quoted_variable(alloc: Global, text: &[u8]) -> Result<(Name, &[u8]), Halt<'_>>
-    ensures { Gives (λ x. x.0) (λ x. x.1.now) result (quoted_at (λ n. not (bare_test n)) text.now) }
+    ensures { IsReadAs (λ x. x.0) (λ x. x.1.now) result (quoted_at (λ n. not (bare_test n)) text.now) }
 {
     let (name, end) = spelled(alloc, text)?;
     if is_bare(&name) {

@@ -4,7 +4,7 @@ ghost use Rattle.std.specs.Option.{option_map};
 ghost use Rattle.ot_forms.specs.Reading.{operator_at, constant_at, quoted_at, bare_symbol_at};
 ghost use Rattle.ot_forms.specs.Reading.{is_spelled as spelled_test, sign_word_at, operators};
 ghost use Rattle.ot_forms.specs.Reading.{narrowed as narrowed_by, ended, ended_at};
-ghost use Rattle.ot_parse.specs.Gives.{Gives};
+ghost use Rattle.ot_parse.specs.Gives.{IsReadAs};
 ghost use Rattle.ot_parse.specs.Symbols.{symbol_of, behind_byte};
 
 use crate::halt::Halt;
@@ -20,7 +20,7 @@ pub(crate) fn operator_word<'a>(
     notation: &Notation,
     text: &'a [u8],
 ) -> Result<(Name, &'a [u8]), Halt<'a>>
-    ensures { Gives (λ x. x.0) (λ x. x.1.now) result (operator_at notation.now text.now) }
+    ensures { IsReadAs (λ x. x.0) (λ x. x.1.now) result (operator_at notation.now text.now) }
 {
     match text {
         [] => Err(Halt::Syntax(text)),
@@ -41,7 +41,7 @@ fn quoted_symbol<'a>(
     kind: WordKind,
     text: &'a [u8],
 ) -> Result<(Name, &'a [u8]), Halt<'a>>
-    ensures { Gives (λ x. x.0) (λ x. x.1.now) result
+    ensures { IsReadAs (λ x. x.0) (λ x. x.1.now) result
         (quoted_at (λ n. spelled_test notation.now (symbol_of (kind, n))) text.now) }
 {
     let (name, end) = spelled(alloc, text)?;
@@ -59,7 +59,7 @@ fn bare_symbol<'a>(
     kind: WordKind,
     text: &'a [u8],
 ) -> Result<(Name, &'a [u8]), Halt<'a>>
-    ensures { Gives (λ x. x.0) (λ x. x.1.now) result
+    ensures { IsReadAs (λ x. x.0) (λ x. x.1.now) result
         (bare_symbol_at notation.now (λ n. symbol_of (kind, n)) text.now) }
 {
     let (name, rest) = bare(alloc, text)?;
@@ -76,7 +76,7 @@ pub(crate) fn constant_word<'a>(
     notation: &Notation,
     text: &'a [u8],
 ) -> Result<(Name, &'a [u8]), Halt<'a>>
-    ensures { Gives (λ x. x.0) (λ x. x.1.now) result (constant_at notation.now text.now) }
+    ensures { IsReadAs (λ x. x.0) (λ x. x.1.now) result (constant_at notation.now text.now) }
 {
     match text {
         [] => Err(Halt::Syntax(text)),
@@ -98,7 +98,7 @@ fn sign_word<'a>(
     notation: &Notation,
     text: &'a [u8],
 ) -> Result<(Name, &'a [u8]), Halt<'a>>
-    ensures { Gives (λ x. x.0) (λ x. x.1.now) result (sign_word_at (operators notation.now) text.now) }
+    ensures { IsReadAs (λ x. x.0) (λ x. x.1.now) result (sign_word_at (operators notation.now) text.now) }
 {
     let mut candidates = notation.operators(alloc)?;
     let mut rest = text;
@@ -151,7 +151,7 @@ fn ended_word<'a>(
     candidates: &[(&[u8], &Name)],
     text: &'a [u8],
 ) -> Result<(Name, &'a [u8]), Halt<'a>>
-    ensures { Gives (λ x. x.0) (λ x. x.1.now) result
+    ensures { IsReadAs (λ x. x.0) (λ x. x.1.now) result
         (ended_at (ended (map (λ c. (c.0.now, c.1.now)) candidates.now)) text.now) }
 {
     for candidate in candidates {

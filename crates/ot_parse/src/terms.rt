@@ -1,5 +1,5 @@
 //! Terms in a text, with what is open around them kept in a list.
-ghost use Rattle.std.specs.Prelude.{◌≡◌, ◌≤◌, ◌<◌, ◌+◌, ◌-◌, ◌==◌, ◌||◌, ℕ, suc};
+ghost use Rattle.std.specs.Prelude.{◌≡◌, ◌≤◌, ◌<◌, ◌+◌, ◌-◌, ◌==◌, ◌||◌, ℕ, suc, true};
 ghost use Rattle.std.specs.Prelude.{List, [], ◌∷◌, length, IfOk, IfNone, IfSome};
 ghost use Rattle.ot_logic.specs.Names.{Name as NameValue};
 ghost use Rattle.ot_logic.specs.Trees.{Symbol};
@@ -7,17 +7,18 @@ ghost use Rattle.ot_forms.specs.Forms.{FreeAs, ConAs};
 ghost use Rattle.ot_forms.specs.Meaning.{Around};
 ghost use Rattle.ot_forms.specs.Refusals.{open_limit};
 ghost use Rattle.ot_forms.specs.Reading.{Got, mapped, part_at, first_part, is_single as single_test};
-ghost use Rattle.ot_parse.specs.Gives.{Gives};
+ghost use Rattle.ot_parse.specs.Gives.{IsReadAs};
 ghost use Rattle.ot_logic.specs.PlainTrees.{type_of_tree};
 ghost use Rattle.ot_parse.specs.Meant.{place_at, raw, bound_of, is_relation as relation_test};
 ghost use Rattle.ot_parse.specs.Meant.{sides_of as sides_meaning};
-ghost use Rattle.ot_parse.specs.Values.{IsMeant, IsMade, meant_of};
+ghost use Rattle.ot_parse.specs.Values.{IsMeant, IsProposition, IsMade, meant_of};
 ghost use Rattle.ot_parse.specs.TermFrames.{First, Right, Argument, Body, inner_of, around, closed};
 ghost use Rattle.ot_parse.specs.TermFrames.{begun, operated, behind, after, binder_at};
 ghost use Rattle.ot_parse.specs.TermFrames.{closed_free_at, closed_variable_at, closed_constant_at};
 ghost use Rattle.ot_parse.specs.TermFrames.{closed_term, binding_reading, named_reading, is_free_at};
 ghost use Rattle.ot_parse.specs.TermCode.{frame_of, reversed, frames_of, IsKept, AreKept, IsLeaf};
-ghost use Rattle.ot_parse.specs.TermCode.{IsInside, IsFront, IsBack, IsClosed, IsOn, HasEnded, IsNext};
+ghost use Rattle.ot_parse.specs.TermCode.{IsTermFront, IsFront, IsBack, ClosesTerm, IsOn, HasEnded, IsNext};
+ghost use Rattle.ot_parse.specs.TermCode.{OpensWithin, EndsWithin, BeginsWithin};
 
 use crate::halt::Halt;
 use crate::notation::Notation;
@@ -79,20 +80,18 @@ pub(crate) fn read_part<'a>(
     text: &'a [u8],
 ) -> Result<(Meant, &'a [u8]), Halt<'a>>
     requires { length text.now ≤ total }
-    ensures read { Gives (λ x. meant_of x.0) (λ x. x.1.now) result (begun total notation.now open_limit [] text.now) }
+    ensures read { IsReadAs (λ x. meant_of x.0) (λ x. x.1.now) result (begun total notation.now open_limit [] text.now) }
     ensures kept { IfOk result (λ x. IsMeant [] x.0) }
 {
     let mut frames = Vec::new(alloc);
     let mut rest = text;
-    'terms: for _ in 0..u64::MAX {
+    'terms: loop {
         match next_of(alloc, notation, total, &mut frames, rest) {
             Err(halt) => return Err(halt),
             Ok(Next::Ended(part, behind)) => return Ok((part, behind)),
             Ok(Next::Begins(behind)) => rest = behind,
         }
     }
-    // Each turn passes a byte of the text, so that it ends before.
-    Err(Halt::Memory)
 }
 
 /// Where reading goes on.
@@ -112,9 +111,11 @@ fn next_of<'a>(
     frames: &mut Vec<Open<'a>>,
     text: &'a [u8],
 ) -> Result<Next<'a>, Halt<'a>>
-    requires { length frames.old.items ≤ open_limit }
-    ensures { (start : List ℕ) → IsOn total notation.now start frames.old.items text.now
+    requires open { length frames.old.items ≤ open_limit }
+    requires within { length text.now ≤ total }
+    ensures read { (start : List ℕ) → IsOn total notation.now start frames.old.items text.now
         → IsNext total notation.now start frames.new.items result }
+    ensures shorter { IfOk result (BeginsWithin (length text.now)) }
 {
     notation.sound();
     let room = OPEN_LIMIT - frames.len();
@@ -141,8 +142,9 @@ fn ended<'a>(
     part: Meant,
     text: &'a [u8],
 ) -> Result<Next<'a>, Halt<'a>>
-    ensures { (start : List ℕ) → HasEnded total notation.now start frames.old.items part text.now
+    ensures read { (start : List ℕ) → HasEnded total notation.now start frames.old.items part text.now
         → IsNext total notation.now start frames.new.items result }
+    ensures shorter { IfOk result (BeginsWithin (length text.now)) }
 {
     match close(alloc, notation, total, frames, part, text) {
         Err(halt) => Err(halt),
@@ -170,8 +172,9 @@ fn front_of<'a>(
     room: usize,
     text: &'a [u8],
 ) -> Result<Front<'a>, Halt<'a>>
-    ensures { length text.now ≤ total → IsFront total notation.now room (around (frames_of frames.now)) text.now
+    ensures read { length text.now ≤ total → IsFront total notation.now room (around (frames_of frames.now)) text.now
         result }
+    ensures shorter { IfOk result (OpensWithin (length text.now)) }
 {
     match text.split_first() {
         None => Err(Halt::Syntax(text)),
@@ -266,7 +269,7 @@ fn constant<'a>(
     room: usize,
     text: &'a [u8],
 ) -> Result<(Name, Ty, &'a [u8]), Halt<'a>>
-    ensures { Gives (λ x. ConAs x.0 (type_of_tree x.1)) (λ x. x.2.now) result
+    ensures { IsReadAs (λ x. ConAs x.0 (type_of_tree x.1)) (λ x. x.2.now) result
         (closed_constant_at notation.now room text.now) }
 {
     let (name, end) = constant_word(alloc, notation, text)?;
@@ -286,10 +289,11 @@ fn inside<'a>(
     at: u64,
     text: &'a [u8],
 ) -> Result<Front<'a>, Halt<'a>>
-    ensures { length text.now < total → at ≡ total - suc (length text.now)
-        → IsInside total notation.now room (around (frames_of frames.now))
+    ensures read { length text.now < total → at ≡ total - suc (length text.now)
+        → IsTermFront total notation.now room (around (frames_of frames.now))
         (mapped (raw notation.now (around (frames_of frames.now)) at) (closed_term notation.now room text.now))
         result }
+    ensures shorter { IfOk result (OpensWithin (suc (length text.now))) }
 {
     notation.sound();
     match text.split_first() {
@@ -324,9 +328,10 @@ fn binding_front<'a>(
     room: usize,
     text: &'a [u8],
 ) -> Result<Front<'a>, Halt<'a>>
-    ensures { (k : ℕ) (l : Around) → suc (length text.now) < total → k ≡ total - suc (suc (length text.now))
-        → IsInside total notation.now room l
+    ensures read { (k : ℕ) (l : Around) → suc (length text.now) < total → k ≡ total - suc (suc (length text.now))
+        → IsTermFront total notation.now room l
         (mapped (raw notation.now l k) (binding_reading notation.now room text.now)) result }
+    ensures shorter { IfOk result (OpensWithin (suc (length text.now))) }
 {
     notation.sound();
     let (name, ty, body) = binder(alloc, notation, room, text)?;
@@ -341,7 +346,7 @@ fn binder<'a>(
     room: usize,
     text: &'a [u8],
 ) -> Result<(&'a [u8], Ty, &'a [u8]), Halt<'a>>
-    ensures { Gives (λ x. (x.0.now, type_of_tree x.1)) (λ x. x.2.now) result (binder_at notation.now room text.now) }
+    ensures { IsReadAs (λ x. (x.0.now, type_of_tree x.1)) (λ x. x.2.now) result (binder_at notation.now room text.now) }
 {
     let (name, end) = part(text)?;
     let rest = literal(end, b" : ")?;
@@ -371,7 +376,7 @@ fn quoted_variable<'a>(
     room: usize,
     text: &'a [u8],
 ) -> Result<(Name, Ty, &'a [u8]), Halt<'a>>
-    ensures { Gives (λ x. FreeAs x.0 (type_of_tree x.1)) (λ x. x.2.now) result
+    ensures { IsReadAs (λ x. FreeAs x.0 (type_of_tree x.1)) (λ x. x.2.now) result
         (closed_variable_at notation.now room text.now) }
 {
     let (name, end) = variable_word(alloc, text)?;
@@ -387,7 +392,7 @@ fn free<'a>(
     name: Name,
     text: &'a [u8],
 ) -> Result<(Name, Ty, &'a [u8]), Halt<'a>>
-    ensures { Gives (λ x. FreeAs x.0 (type_of_tree x.1)) (λ x. x.2.now) result
+    ensures { IsReadAs (λ x. FreeAs x.0 (type_of_tree x.1)) (λ x. x.2.now) result
         (closed_free_at notation.now room name text.now) }
 {
     let rest = literal(text, b": ")?;
@@ -406,10 +411,11 @@ fn named<'a>(
     at: u64,
     text: &'a [u8],
 ) -> Result<Front<'a>, Halt<'a>>
-    ensures { length text.now < total → at ≡ total - suc (length text.now)
-        → IsInside total notation.now room (around (frames_of frames.now))
+    ensures read { length text.now < total → at ≡ total - suc (length text.now)
+        → IsTermFront total notation.now room (around (frames_of frames.now))
         (mapped (raw notation.now (around (frames_of frames.now)) at) (named_reading notation.now room text.now))
         result }
+    ensures shorter { IfOk result (OpensWithin (suc (length text.now))) }
 {
     notation.sound();
     let (name, end) = bare(alloc, text)?;
@@ -471,9 +477,10 @@ fn close<'a>(
     part: Meant,
     text: &'a [u8],
 ) -> Result<Back<'a>, Halt<'a>>
-    ensures { AreKept (reversed frames.old.items) → IsMeant (around (frames_of frames.old.items)) part
-        → length text.now ≤ total → IsClosed total notation.now (reversed frames.old.items)
+    ensures read { AreKept (reversed frames.old.items) → IsMeant (around (frames_of frames.old.items)) part
+        → length text.now ≤ total → ClosesTerm total notation.now (reversed frames.old.items)
         (reversed frames.new.items) (Got (meant_of part) text.now) result }
+    ensures shorter { IfOk result (EndsWithin (length text.now)) }
 {
     let mut part = part;
     let mut rest = text;
@@ -501,9 +508,10 @@ fn back_of<'a>(
     part: Meant,
     text: &'a [u8],
 ) -> Result<Back<'a>, Halt<'a>>
-    ensures { (m : ℕ) (l : Around) → IsKept l inside.entry → IsMeant (inner_of (frame_of inside.entry) l) part
+    ensures read { (m : ℕ) (l : Around) → IsKept l inside.entry → IsMeant (inner_of (frame_of inside.entry) l) part
         → length text.now ≤ total → IsBack total notation.now m l
         (after total notation.now m l (frame_of inside.entry) (meant_of part) text.now) result }
+    ensures shorter { IfOk result (EndsWithin (length text.now)) }
 {
     match inside {
         Open::First(at, place) => back_of_first(total, at, place, part, text),
@@ -532,8 +540,10 @@ fn back_of_first<'a>(
     part: Meant,
     text: &'a [u8],
 ) -> Result<Back<'a>, Halt<'a>>
-    ensures { (h : List (Symbol NameValue)) (m : ℕ) (l : Around) → place ≡ at + 1 → IsMeant l part → length text.now
-        ≤ total → IsBack total h m l (after total h m l (First at) (meant_of part) text.now) result }
+    ensures read { (h : List (Symbol NameValue)) (m : ℕ) (l : Around) → place ≡ at + 1 → IsMeant l part
+        → length text.now ≤ total
+        → IsBack total h m l (after total h m l (First at) (meant_of part) text.now) result }
+    ensures shorter { IfOk result (EndsWithin (length text.now)) }
 {
     let rest = literal(text, b" ")?;
     behind_first(total, at, place, part, rest)
@@ -547,8 +557,10 @@ fn behind_first<'a>(
     part: Meant,
     text: &'a [u8],
 ) -> Result<Back<'a>, Halt<'a>>
-    ensures { (h : List (Symbol NameValue)) (m : ℕ) (l : Around) → place ≡ at + 1 → IsMeant l part → length text.now
-        ≤ total → IsBack total h m l (closed (behind total h m l at (meant_of part) text.now)) result }
+    ensures read { (h : List (Symbol NameValue)) (m : ℕ) (l : Around) → place ≡ at + 1 → IsMeant l part
+        → length text.now ≤ total
+        → IsBack total h m l (closed (behind total h m l at (meant_of part) text.now)) result }
+    ensures shorter { IfOk result (EndsWithin (suc (length text.now))) }
 {
     match text.split_first() {
         None => Err(Halt::Syntax(text)),
@@ -571,8 +583,10 @@ fn operator<'a>(
     part: Meant,
     text: &'a [u8],
 ) -> Result<Back<'a>, Halt<'a>>
-    ensures { (h : List (Symbol NameValue)) (m : ℕ) (l : Around) → place ≡ at + 1 → IsMeant l part → length text.now
-        ≤ total → IsBack total h m l (closed (operated total h m l at (meant_of part) text.now)) result }
+    ensures read { (h : List (Symbol NameValue)) (m : ℕ) (l : Around) → place ≡ at + 1 → IsMeant l part
+        → length text.now ≤ total
+        → IsBack total h m l (closed (operated total h m l at (meant_of part) text.now)) result }
+    ensures shorter { IfOk result (EndsWithin (suc (length text.now))) }
 {
     let (word, end) = signs(text)?;
     let rest = literal(end, b" ")?;
@@ -592,8 +606,11 @@ fn back_of_right<'a>(
     part: Meant,
     text: &'a [u8],
 ) -> Result<Back<'a>, Halt<'a>>
-    ensures { (n m : ℕ) (l : Around) → IsMeant l left → IsMeant l part → length text.now ≤ n → IsBack n notation.now m
-        l (after n notation.now m l (Right at place operator.now (meant_of left)) (meant_of part) text.now) result }
+    ensures read { (n m : ℕ) (l : Around) → IsMeant l left × (relation_test operator.now ≡ true → IsProposition left)
+        → IsMeant l part → length text.now ≤ n
+        → IsBack n notation.now m l
+        (after n notation.now m l (Right at place operator.now (meant_of left)) (meant_of part) text.now) result }
+    ensures shorter { IfOk result (EndsWithin (length text.now)) }
 {
     let rest = literal(text, b")")?;
     let right = whole(is_relation(operator), place, part);
@@ -611,6 +628,7 @@ fn sides_of(
     right: Meant,
 ) -> Result<Meant, Memory>
     ensures { (l : Around) → IsMeant l left → IsMeant l right
+        → (relation_test operator.now ≡ true → IsProposition left × IsProposition right)
         → IsMade l (sides_meaning notation.now l at operator.now (meant_of left) (meant_of right)) result }
 {
     if is_same(operator, b"=") {
@@ -631,9 +649,10 @@ fn back_of_argument<'a>(
     part: Meant,
     text: &'a [u8],
 ) -> Result<Back<'a>, Halt<'a>>
-    ensures { (m : ℕ) (l : Around) → IsMeant l function → IsMeant l part → length text.now ≤ total
+    ensures read { (m : ℕ) (l : Around) → IsMeant l function → IsMeant l part → length text.now ≤ total
         → IsBack total notation.now m l
         (after total notation.now m l (Argument at place (meant_of function)) (meant_of part) text.now) result }
+    ensures shorter { IfOk result (EndsWithin (length text.now)) }
 {
     notation.sound();
     let argument = whole(false, place, part);
@@ -663,9 +682,10 @@ fn back_of_body<'a>(
     part: Meant,
     text: &'a [u8],
 ) -> Result<Back<'a>, Halt<'a>>
-    ensures { (n : ℕ) (h : List (Symbol NameValue)) (m : ℕ) (l : Around)
+    ensures read { (n : ℕ) (h : List (Symbol NameValue)) (m : ℕ) (l : Around)
         → IsMeant ((name.now, type_of_tree ty) ∷ l) part → length text.now ≤ n
         → IsBack n h m l (after n h m l (Body place name.now (type_of_tree ty)) (meant_of part) text.now) result }
+    ensures shorter { IfOk result (EndsWithin (length text.now)) }
 {
     // The contract alone asks for the name.
     let _ = name;

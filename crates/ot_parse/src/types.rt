@@ -1,15 +1,16 @@
 //! Types in a text, with what is open around them kept in a list.
-ghost use Rattle.std.specs.Prelude.{◌≡◌, ◌≤◌, length, ◌==◌, ◌||◌, ℕ, false, IfNone};
+ghost use Rattle.std.specs.Prelude.{◌≡◌, ◌≤◌, length, ◌==◌, ◌||◌, ℕ, suc, false, IfNone};
 ghost use Rattle.std.specs.Prelude.{IfSome, List, ◌++◌, ◌∷◌, [], IfOk, map};
 ghost use Rattle.ot_logic.specs.Names.{Name as NameValue};
 ghost use Rattle.ot_logic.specs.Trees.{Ty as TypeTree, TyVar, TyOp, NoTys};
 ghost use Rattle.ot_logic.specs.Naming.{names};
 ghost use Rattle.ot_logic.specs.Hol.{fun_ty};
 ghost use Rattle.ot_forms.specs.Reading.{Got, mapped, variable_at, operator_at, behind_word_at, further_at, type_at};
-ghost use Rattle.ot_parse.specs.Gives.{Gives};
+ghost use Rattle.ot_parse.specs.Gives.{IsReadAs};
 ghost use Rattle.ot_logic.specs.PlainTrees.{type_of_tree};
 ghost use Rattle.ot_parse.specs.Frames.{Domain, Range, Argument, frame_of, frames_of, closed, word_first, is_spaced};
-ghost use Rattle.ot_parse.specs.Frames.{IsFrontOf, IsLeafOf, IsInside, IsInsideOf, IsBackOf, IsClosed, IsOn, IsNext};
+ghost use Rattle.ot_parse.specs.Frames.{IsFrontOf, IsLeafOf, IsTypeFront, IsInsideOf, IsBackOf, ClosesType, IsOn, IsNext};
+ghost use Rattle.ot_parse.specs.Frames.{OpensWithin, EndsWithin, BeginsWithin};
 
 use crate::halt::Halt;
 use crate::notation::Notation;
@@ -55,20 +56,18 @@ pub(crate) fn read_type<'a>(
     room: usize,
     text: &'a [u8],
 ) -> Result<(Ty, &'a [u8]), Halt<'a>>
-    ensures { Gives (λ x. type_of_tree x.0) (λ x. x.1.now) result (type_at notation.now room text.now) }
+    ensures { IsReadAs (λ x. type_of_tree x.0) (λ x. x.1.now) result (type_at notation.now room text.now) }
 {
     notation.sound();
     let mut frames = Vec::new(alloc);
     let mut rest = text;
-    'types: for _ in 0..u64::MAX {
+    'types: loop {
         match next_of(alloc, notation, room, &mut frames, rest) {
             Err(halt) => return Err(halt),
             Ok(Next::Ended(ty, behind)) => return Ok((ty, behind)),
             Ok(Next::Begins(behind)) => rest = behind,
         }
     }
-    // Each turn passes a byte of the text, so that it ends before.
-    Err(Halt::Memory)
 }
 
 /// Where reading goes on.
@@ -89,9 +88,11 @@ fn next_of<'a>(
     text: &'a [u8],
 ) -> Result<Next<'a>, Halt<'a>>
     requires { length frames.old.items ≤ room }
-    ensures { (start : List ℕ) → IsOn notation.now room start frames.old.items text.now
+    ensures read { (start : List ℕ) → IsOn notation.now room start frames.old.items text.now
         → IsNext notation.now room start frames.new.items result }
+    ensures shorter { IfOk result (BeginsWithin (length text.now)) }
 {
+    notation.sound();
     match front_of(alloc, notation, room - frames.len(), text) {
         Err(halt) => Err(halt),
         Ok(Front::Inside(inside, after)) => {
@@ -116,7 +117,8 @@ fn front_of<'a>(
     room: usize,
     text: &'a [u8],
 ) -> Result<Front<'a>, Halt<'a>>
-    ensures { IsFrontOf notation.now room text.now result }
+    ensures read { IsFrontOf notation.now room text.now result }
+    ensures shorter { IfOk result (OpensWithin (length text.now)) }
 {
     match text.split_first() {
         None => Err(Halt::Syntax(text)),
@@ -157,7 +159,8 @@ fn operator_front<'a>(
 
 /// What a parenthesis opens.
 fn inside<'a>(alloc: Global, notation: &Notation, text: &'a [u8]) -> Result<Front<'a>, Halt<'a>>
-    ensures { (m : ℕ) → IsInside notation.now m text.now result }
+    ensures read { (m : ℕ) → IsTypeFront notation.now m text.now result }
+    ensures shorter { IfOk result (OpensWithin (suc (length text.now))) }
 {
     match text.split_first() {
         None => Err(Halt::Syntax(text)),
@@ -184,9 +187,11 @@ fn inside_word<'a>(
     notation: &Notation,
     text: &'a [u8],
 ) -> Result<Front<'a>, Halt<'a>>
-    ensures { (m : ℕ) → IsInsideOf (closed (word_first notation.now (type_at notation.now m) text.now)) notation.now m
-        result }
+    ensures read { (m : ℕ) → IsInsideOf (closed (word_first notation.now (type_at notation.now m) text.now))
+        notation.now m result }
+    ensures shorter { IfOk result (OpensWithin (suc (length text.now))) }
 {
+    notation.sound();
     let (name, end) = operator_word(alloc, notation, text)?;
     let rest = literal(end, b" ")?;
     behind_word(alloc, notation, name, rest)
@@ -199,8 +204,9 @@ fn behind_word<'a>(
     name: Name,
     text: &'a [u8],
 ) -> Result<Front<'a>, Halt<'a>>
-    ensures { (m : ℕ) → IsInsideOf (closed (behind_word_at notation.now (type_at notation.now m) name text.now))
+    ensures read { (m : ℕ) → IsInsideOf (closed (behind_word_at notation.now (type_at notation.now m) name text.now))
         notation.now m result }
+    ensures shorter { IfOk result (OpensWithin (suc (length text.now))) }
 {
     // The contract alone asks for the notation.
     let _ = notation;
@@ -225,8 +231,9 @@ fn close<'a>(
     ty: Ty,
     text: &'a [u8],
 ) -> Result<Back<'a>, Halt<'a>>
-    ensures { IsClosed notation.now (frames_of frames.old.items) (frames_of frames.new.items)
+    ensures read { ClosesType notation.now (frames_of frames.old.items) (frames_of frames.new.items)
         (Got (type_of_tree ty) text.now) result }
+    ensures shorter { IfOk result (EndsWithin (length text.now)) }
 {
     let mut ty = ty;
     let mut rest = text;
@@ -263,7 +270,8 @@ fn back_of<'a>(
     ty: Ty,
     text: &'a [u8],
 ) -> Result<Back<'a>, Halt<'a>>
-    ensures { (m : ℕ) → IsBackOf notation.now m (frame_of inside) (type_of_tree ty) text.now result }
+    ensures read { (m : ℕ) → IsBackOf notation.now m (frame_of inside) (type_of_tree ty) text.now result }
+    ensures shorter { IfOk result (EndsWithin (length text.now)) }
 {
     match inside {
         Open::Domain => back_of_domain(notation, ty, text),
@@ -274,7 +282,8 @@ fn back_of<'a>(
 
 /// Behind a domain stand the arrow and the range.
 fn back_of_domain<'a>(notation: &Notation, ty: Ty, text: &'a [u8]) -> Result<Back<'a>, Halt<'a>>
-    ensures { (m : ℕ) → IsBackOf notation.now m Domain (type_of_tree ty) text.now result }
+    ensures read { (m : ℕ) → IsBackOf notation.now m Domain (type_of_tree ty) text.now result }
+    ensures shorter { IfOk result (EndsWithin (length text.now)) }
 {
     let space = literal(text, b" ")?;
     let rest = literal(space, b"-> ")?;
@@ -289,7 +298,8 @@ fn back_of_range<'a>(
     ty: Ty,
     text: &'a [u8],
 ) -> Result<Back<'a>, Halt<'a>>
-    ensures { (m : ℕ) → IsBackOf notation.now m (Range (type_of_tree domain)) (type_of_tree ty) text.now result }
+    ensures read { (m : ℕ) → IsBackOf notation.now m (Range (type_of_tree domain)) (type_of_tree ty) text.now result }
+    ensures shorter { IfOk result (EndsWithin (length text.now)) }
 {
     // The contract alone asks for the notation.
     let _ = notation;
@@ -306,8 +316,9 @@ fn back_of_argument<'a>(
     ty: Ty,
     text: &'a [u8],
 ) -> Result<Back<'a>, Halt<'a>>
-    ensures { (m : ℕ) → IsBackOf notation.now m (Argument name (map type_of_tree args.items)) (type_of_tree ty)
+    ensures read { (m : ℕ) → IsBackOf notation.now m (Argument name (map type_of_tree args.items)) (type_of_tree ty)
         text.now result }
+    ensures shorter { IfOk result (EndsWithin (length text.now)) }
 {
     let mut args = args;
     args.push(ty)?;
@@ -321,8 +332,9 @@ fn behind_arguments<'a>(
     args: Vec<Ty>,
     text: &'a [u8],
 ) -> Result<Back<'a>, Halt<'a>>
-    ensures { (m : ℕ) (ts : List (TypeTree NameValue)) (t : TypeTree NameValue) → map type_of_tree args.items ≡ ts
+    ensures read { (m : ℕ) (ts : List (TypeTree NameValue)) (t : TypeTree NameValue) → map type_of_tree args.items ≡ ts
         ++ t ∷ [] → IsBackOf notation.now m (Argument name ts) t text.now result }
+    ensures shorter { IfOk result (EndsWithin (length text.now)) }
 {
     notation.sound();
     match next_argument(text) {
@@ -349,9 +361,10 @@ fn end_arguments<'a>(
     args: Vec<Ty>,
     text: &'a [u8],
 ) -> Result<Back<'a>, Halt<'a>>
-    ensures { (m : ℕ) (ts : List (TypeTree NameValue)) (t : TypeTree NameValue) → map type_of_tree args.items ≡ ts
+    ensures read { (m : ℕ) (ts : List (TypeTree NameValue)) (t : TypeTree NameValue) → map type_of_tree args.items ≡ ts
         ++ t ∷ [] → further_at notation.now (type_at notation.now m) 0 text.now ≡ Got NoTys text.now
         → IsBackOf notation.now m (Argument name ts) t text.now result }
+    ensures shorter { IfOk result (EndsWithin (length text.now)) }
 {
     // The contract alone asks for the notation.
     let _ = notation;

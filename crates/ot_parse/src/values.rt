@@ -1,17 +1,17 @@
 //! Nameless terms in the making, with their types, and what is wrong with a part that has none.
-ghost use Rattle.std.specs.Prelude.{◌≡◌, ◌≤◌, ℕ, suc, min, List, ◌∷◌, IfOk, Ok};
+ghost use Rattle.std.specs.Prelude.{◌≡◌, ◌≤◌, ℕ, suc, min, List, ◌∷◌, Some, IfOk, Ok};
 ghost use Rattle.std.specs.Option.{option_map};
 ghost use Rattle.ot_logic.specs.Naming.{names};
 ghost use Rattle.ot_logic.specs.Names.{Name as NameValue};
 ghost use Rattle.ot_logic.specs.Trees.{Ty as TypeTree, Free as FreeTree, Con as ConTree};
 ghost use Rattle.ot_logic.specs.Trees.{Bound as BoundTree, App as AppTree, Abs as AbsTree};
-ghost use Rattle.ot_logic.specs.Hol.{bool_ty, result_ty, depth_ty, depth_limit};
+ghost use Rattle.ot_logic.specs.Hol.{bool_ty, fun_ty, result_ty, depth_ty, depth_limit};
 ghost use Rattle.ot_forms.specs.Meaning.{Around, fits as fits_test};
 ghost use Rattle.ot_logic.specs.PlainTrees.{type_of_tree, term_of_tree};
 ghost use Rattle.ot_parse.specs.Meant.{equal_of, infix_of, apply_of};
 ghost use Rattle.ot_parse.specs.Meant.{abstracted as abstracted_value, relation_of, related_at};
 ghost use Rattle.ot_parse.specs.Values.{IsValue, IsBoundTo, IsMeant, meant_of, deeper};
-ghost use Rattle.ot_parse.specs.Values.{IsWholly, IsApplied, IsMade, IsRelated};
+ghost use Rattle.ot_parse.specs.Values.{IsProposition, IsWholly, IsApplied, IsAppliedAs, IsMade, IsRelated};
 
 use crate::notation::{Notation, WordKind};
 use crate::trees::{is_arrow, is_bool, same_type};
@@ -221,6 +221,25 @@ fn applied(alloc: Global, function: Value, argument: Value) -> Result<Option<Val
     }
 }
 
+/// An application of this type.
+fn applied_as(alloc: Global, function: Value, argument: Value, ty: Ty) -> Result<Value, Memory>
+    ensures { (l : Around) → IsValue l function → IsValue l argument
+        → result_ty names (type_of_tree function.ty) (type_of_tree argument.ty) ≡ Some (type_of_tree ty)
+        → IfOk result (IsAppliedAs l (term_of_tree function.term) (term_of_tree argument.term) (type_of_tree ty)) }
+{
+    let depth = one_deeper(function.depth, argument.depth);
+    let are_shallow = function.has_shallow_types && argument.has_shallow_types;
+    let term = applied_term(alloc, function.term, argument.term)?;
+    let type_depth = type_depth(&ty, DEPTH_LIMIT as u64);
+    Ok(Value {
+        term,
+        ty,
+        depth,
+        type_depth,
+        has_shallow_types: type_depth <= DEPTH_LIMIT as u64 && are_shallow,
+    })
+}
+
 /// The first term applied to the second.
 fn applied_term(alloc: Global, function: Tm, argument: Tm) -> Result<Tm, Memory>
     ensures { IfOk result (λ t. term_of_tree t ≡ AppTree (term_of_tree function) (term_of_tree argument)) }
@@ -308,7 +327,7 @@ fn equality(alloc: Global, ty: &Ty) -> Result<Value, AllocError>
     relation(alloc, Name::of_text(alloc, b"=")?, ty)
 }
 
-/// Two terms at the sides of an operator word, in a part that begins at this place.
+/// Two propositions at the sides of an operator word, in a part that begins at this place.
 pub(crate) fn operation(
     alloc: Global,
     notation: &Notation,
@@ -317,7 +336,7 @@ pub(crate) fn operation(
     left: Meant,
     right: Meant,
 ) -> Result<Meant, Memory>
-    ensures { (l : Around) → IsMeant l left → IsMeant l right
+    ensures { (l : Around) → IsMeant l left → IsMeant l right → IsProposition left → IsProposition right
         → IsMade l (infix_of notation.now l at operator.now (meant_of left) (meant_of right)) result }
 {
     match (left, right) {
@@ -335,7 +354,8 @@ fn operated(
     left: Value,
     right: Value,
 ) -> Result<Meant, Memory>
-    ensures { (l : Around) → IsValue l left → IsValue l right
+    ensures { (l : Around) → IsValue l left → IsValue l right → type_of_tree left.ty ≡ bool_ty names
+        → type_of_tree right.ty ≡ bool_ty names
         → IsMade l (infix_of notation.now l at operator.now (Ok (term_of_tree left.term))
         (Ok (term_of_tree right.term))) result }
 {
@@ -345,16 +365,36 @@ fn operated(
     }
 }
 
-/// A constant of this name at two propositions.
+/// A constant of this name at two propositions, which it takes.
 fn joined(alloc: Global, name: &Name, left: Value, right: Value) -> Result<Meant, Memory>
-    ensures { (l : Around) → IsValue l left → IsValue l right → IsMade l
+    ensures { (l : Around) → IsValue l left → IsValue l right → type_of_tree left.ty ≡ bool_ty names
+        → type_of_tree right.ty ≡ bool_ty names → IsMade l
         (Ok (related_at name.now (bool_ty names) (term_of_tree left.term) (term_of_tree right.term))) result }
 {
+    let half = half_joined(alloc, name, left)?;
+    let ty = bool_type(alloc)?;
+    let both = applied_as(alloc, half, right, ty)?;
+    Ok(Meant::Value(both))
+}
+
+/// A connective of this name applied to its left side.
+fn half_joined(alloc: Global, name: &Name, left: Value) -> Result<Value, Memory>
+    ensures { (l : Around) → IsValue l left → type_of_tree left.ty ≡ bool_ty names
+        → IfOk result (IsAppliedAs l (ConTree name.now (relation_of (bool_ty names))) (term_of_tree left.term)
+        (fun_ty names (bool_ty names) (bool_ty names))) }
+{
     let connective = connective(alloc, name)?;
-    match related(alloc, connective, left, right)? {
-        Some(value) => Ok(Meant::Value(value)),
-        None => Err(Memory),
-    }
+    let ty = predicate_type(alloc)?;
+    applied_as(alloc, connective, left, ty)
+}
+
+/// The type of a function from propositions to propositions.
+fn predicate_type(alloc: Global) -> Result<Ty, AllocError>
+    ensures { IfOk result (λ t. type_of_tree t ≡ fun_ty names (bool_ty names) (bool_ty names)) }
+{
+    let domain = bool_type(alloc)?;
+    let range = bool_type(alloc)?;
+    function_type(alloc, domain, range)
 }
 
 /// A constant of this name for a relation between propositions.

@@ -29,7 +29,7 @@ use Rattle.ot_kernel.specs.State.{State, name_at, type_at, types_at, term_at, te
 use Rattle.ot_kernel.proofs.Namings.{name_of-index}
 use Rattle.ot_pretty.specs.declared.search.Search.{Search}
 use Rattle.ot_pretty.specs.Run.{named_symbol, symbol_named}
-use Rattle.ot_pretty.specs.Found.{type_symbols, term_symbols, symbols_with, IsSearch, Finds}
+use Rattle.ot_pretty.specs.Found.{type_symbols, term_symbols, symbols_with, IsSearch, FindsSymbols}
 use Rattle.ot_pretty.specs.Found.{Reaches, AddsSymbol, AddsType, AddsTerm, AddsTypes}
 use Rattle.ot_pretty.proofs.Roots.{take-item}
 use Rattle.ot_logic.proofs.Members.{IsMember-flat_map, IsMember-flat_map_back}
@@ -63,7 +63,7 @@ module _ {X Y : Type 0} (f : X → List Y) where
 -- ---- more to look at
 module _ (s : State) (n m : ℕ) where
   abbrev More : Search → Search → List (Symbol Name) → Type 0
-  More = Finds s n m
+  More = FindsSymbols s n m
 
   pub finds-nothing : (p : Search) → More p p []
   finds-nothing p = record {
@@ -184,11 +184,11 @@ module _ (s : State) (n m : ℕ) where
 -- so many of a list of types, or of terms
 abbrev pub AddsTypesSo : Search → Search → List ℕ → ℕ → Type 0
 AddsTypesSo old new ids k = (s : State) (n m : ℕ) → All (λ i. i < m) ids
-    → Finds s n m old new (type_symbols s (take k ids))
+    → FindsSymbols s n m old new (type_symbols s (take k ids))
 
 abbrev pub AddsTermsSo : Search → Search → List ℕ → ℕ → Type 0
 AddsTermsSo old new ids k = (s : State) (n m : ℕ) → All (λ i. i < n) ids
-    → Finds s n m old new (term_symbols s (take k ids))
+    → FindsSymbols s n m old new (term_symbols s (take k ids))
 
 pub types-step : (first old new : Search) (ids : List ℕ) (k i : ℕ) → k < length ids → i ≡ get_or ids k i
     → AddsTypesSo first old ids k → AddsType old new i → AddsTypesSo first new ids (k + 1)
@@ -238,10 +238,10 @@ module _ (s : State) where
   -- what is added for a term, and for a type
   module _ (old new : Search) (i : ℕ) where
     abbrev FindsTerm : Type 0
-    FindsTerm = Finds s i (length s.types) old new (symbols_tm names (term_at s i))
+    FindsTerm = FindsSymbols s i (length s.types) old new (symbols_tm names (term_at s i))
 
     abbrev FindsType : Type 0
-    FindsType = Finds s 0 i old new (symbols_ty names (type_at s i))
+    FindsType = FindsSymbols s 0 i old new (symbols_ty names (type_at s i))
 
     pub variable-finds : (n t : ℕ) → named_at s.terms i ≡ NVar (record { name = name_at s n; ty = type_at s t })
         → t < length s.types → AddsType old new t → FindsTerm
@@ -270,7 +270,7 @@ module _ (s : State) where
         finds-same s 0 i (operator-symbols i (name_at s n) is e) (finds-then s 0 i (a s 0 i g) (b s 0 i h))
 
   pub nothing-finds : (p : Search) (i : ℕ) (n : Name) → type_at s i ≡ TyVar n
-      → Finds s 0 i p p (symbols_ty names (type_at s i))
+      → FindsSymbols s 0 i p p (symbols_ty names (type_at s i))
   nothing-finds p i n e = finds-same s 0 i (no-symbols i n e) (finds-nothing s 0 i p)
 
   -- ---- the greatest number is taken, and looked at
@@ -278,16 +278,16 @@ module _ (s : State) where
   below i k ks h m = less_is k i (All-at_member (λ q. nat_cmp q i ≡ Less) ks k h m)
 
   pub terms-below : {m : ℕ} {old new : Search} {more : List (Symbol Name)} (i : ℕ) → All (λ q. nat_cmp q i ≡ Less)
-      old.terms.keys → Finds s i m old new more → (k : ℕ) → IsMember k new.terms.keys → k < i
+      old.terms.keys → FindsSymbols s i m old new more → (k : ℕ) → IsMember k new.terms.keys → k < i
   terms-below {m} {old} i h f k at = elim (f.terms k at) [ inl a ↦ below i k old.terms.keys h a | inr b ↦ b ]
 
   pub types-below : {n : ℕ} {old new : Search} {more : List (Symbol Name)} (i : ℕ) → All (λ q. nat_cmp q i ≡ Less)
-      old.types.keys → Finds s n i old new more → (k : ℕ) → IsMember k new.types.keys → k < i
+      old.types.keys → FindsSymbols s n i old new more → (k : ℕ) → IsMember k new.types.keys → k < i
   types-below {n} {old} i h f k at = elim (f.types k at) [ inl a ↦ below i k old.types.keys h a | inr b ↦ b ]
 
   pub looked-term : (first old taken new : Search) (i : ℕ) → Reaches s first old → old.terms.keys ≡ taken.terms.keys
       ++ i ∷ [] → old.types.keys ≡ taken.types.keys → old.symbols.keys ≡ taken.symbols.keys
-      → Finds s i (length s.types) taken new (symbols_tm names (term_at s i)) → Reaches s first new
+      → FindsSymbols s i (length s.types) taken new (symbols_tm names (term_at s i)) → Reaches s first new
   looked-term first old taken new i r t y x f =
       let a = map (named_symbol s) taken.symbols.keys in
       let b = type_symbols s taken.types.keys in
@@ -320,7 +320,7 @@ module _ (s : State) where
 
   pub looked-type : (first old taken new : Search) (i : ℕ) → Reaches s first old → old.types.keys ≡ taken.types.keys
       ++ i ∷ [] → old.terms.keys ≡ taken.terms.keys → old.symbols.keys ≡ taken.symbols.keys
-      → Finds s 0 i taken new (symbols_ty names (type_at s i)) → Reaches s first new
+      → FindsSymbols s 0 i taken new (symbols_ty names (type_at s i)) → Reaches s first new
   looked-type first old taken new i r y t x f =
       let a = map (named_symbol s) taken.symbols.keys in
       let b = type_symbols s taken.types.keys in
@@ -376,7 +376,7 @@ module _ (s : State) where
 
   -- no term comes in where none was and none is below 0
   pub no-terms : {m : ℕ} {old new : Search} {more : List (Symbol Name)} → old.terms.keys ≡ []
-      → Finds s 0 m old new more → new.terms.keys ≡ []
+      → FindsSymbols s 0 m old new more → new.terms.keys ≡ []
   no-terms {m} {old} {new} e f =
       none new.terms.keys
       (λ k at. elim (f.terms k at) [ inl a ↦ subst (IsMember k) e a | inr b ↦ absurd (omega (arith, b)) ]) where
@@ -386,7 +386,7 @@ module _ (s : State) where
 
   -- ---- from the first search to the last
   pub starts : (p q : Search) (ids : List ℕ) → p.terms.keys ≡ [] → p.types.keys ≡ [] → p.symbols.keys ≡ []
-      → All (λ i. i < length s.terms) ids → Finds s (length s.terms) 0 p q (term_symbols s ids)
+      → All (λ i. i < length s.terms) ids → FindsSymbols s (length s.terms) 0 p q (term_symbols s ids)
       → IsSearch s q × IsSameSet (symbols_with s q) (term_symbols s ids)
   starts p q ids t y x inside f = (
     record {

@@ -20,7 +20,7 @@ use Rattle.ot_kernel.specs.declared.definition.Definition.TheVariants as definit
 use Rattle.ot_term.specs.declared.term.Symbol as code_symbols
 use Rattle.ot_parse.specs.declared.notation.WordKind.{WordKind}
 use Rattle.ot_parse.specs.Symbols.{symbol_of}
-use Rattle.ot_pretty.specs.Run.{Adds, symbols_of_run, named_symbol}
+use Rattle.ot_pretty.specs.Run.{HasMoreTerms, symbols_of_run, named_symbol}
 use Rattle.ot_logic.proofs.Members.{IsMember-left, IsMember-right}
 
 same-lists : {X : Type 0} (xs ys : List X) → xs ≡ ys → IsSameSet xs ys
@@ -61,18 +61,18 @@ module _ (s : State) where
       All-cons IsIn x (xs ++ ys) (All-head IsIn x xs h) (all-append xs ys (All-tail IsIn x xs h) g)
 
   -- ---- nothing, a theorem, one after another
-  pub adds-nothing : (ids : List ℕ) → Adds s ids ids []
+  pub adds-nothing : (ids : List ℕ) → HasMoreTerms s ids ids []
   adds-nothing ids =
       record { inside = λ h. h; symbols = same-lists _ _ (sym (append-nil (symbols_all names (terms_at s ids)))) }
 
-  pub adds-same : {old new : List ℕ} {x y : List (Symbol Name)} → IsSameSet x y → Adds s old new x → Adds s old new y
+  pub adds-same : {old new : List ℕ} {x y : List (Symbol Name)} → IsSameSet x y → HasMoreTerms s old new x → HasMoreTerms s old new y
   adds-same {old} {new} {x} {y} p a =
       record {
         inside = a.inside;
         symbols = same_set-then a.symbols (same_set-append (same_set-self (symbols_all names (terms_at s old))) p);
       }
 
-  pub adds-then : {a b c : List ℕ} {x y : List (Symbol Name)} → Adds s a b x → Adds s b c y → Adds s a c (x ++ y)
+  pub adds-then : {a b c : List ℕ} {x y : List (Symbol Name)} → HasMoreTerms s a b x → HasMoreTerms s b c y → HasMoreTerms s a c (x ++ y)
   adds-then {a} {b} {c} {x} {y} p q = record {
     inside = λ h. q.inside (p.inside h);
     symbols =
@@ -81,7 +81,7 @@ module _ (s : State) where
   }
 
   pub adds-theorem : (old new hs : List ℕ) (c : ℕ) (q : Sequent Name) → new ≡ (old ++ hs) ++ c ∷ [] → terms_at s hs
-      ≡ q.hyps → term_at s c ≡ q.concl → All IsIn hs → c < length s.terms → Adds s old new (symbols_of names q)
+      ≡ q.hyps → term_at s c ≡ q.concl → All IsIn hs → c < length s.terms → HasMoreTerms s old new (symbols_of names q)
   adds-theorem old new hs c q e h g inside within = record {
     inside = λ a. subst (All IsIn) (sym e)
         (all-append (old ++ hs) (c ∷ []) (all-append old hs a inside) (All-cons IsIn c [] within (All-nil IsIn)));
@@ -97,24 +97,24 @@ module _ (s : State) where
 
   -- ---- a loop over theorems, and over definitions
   pub theorems-more : (first old new : List ℕ) (ths : List ℕ) (i th : ℕ) → i < length ths → th ≡ get_or ths i th
-      → Adds s first old (symbols_in names (map (theorem_at s) (take i ths)))
-      → Adds s old new (symbols_of names (theorem_at s th))
-      → Adds s first new (symbols_in names (map (theorem_at s) (take (i + 1) ths)))
+      → HasMoreTerms s first old (symbols_in names (map (theorem_at s) (take i ths)))
+      → HasMoreTerms s old new (symbols_of names (theorem_at s th))
+      → HasMoreTerms s first new (symbols_in names (map (theorem_at s) (take (i + 1) ths)))
   theorems-more first old new ths i th h at before more =
       let e = ap (λ l. symbols_in names (map (theorem_at s) l)) (take-item ths i th h at)
       ∙ ap (symbols_in names) (map-append (theorem_at s) (take i ths) (th ∷ []))
       ∙ symbols_in-push (map (theorem_at s) (take i ths)) (theorem_at s th) in
-      subst (Adds s first new) (sym e) (adds-then before more)
+      subst (HasMoreTerms s first new) (sym e) (adds-then before more)
 
   pub definitions-more : (first old new : List ℕ) (ds : List code.Definition) (i : ℕ) (d : code.Definition)
-      → take (i + 1) ds ≡ take i ds ++ d ∷ [] → Adds s first old
-      (flat_map (used names) (map (definition_at s) (take i ds))) → Adds s old new (used names (definition_at s d))
-      → Adds s first new (flat_map (used names) (map (definition_at s) (take (i + 1) ds)))
+      → take (i + 1) ds ≡ take i ds ++ d ∷ [] → HasMoreTerms s first old
+      (flat_map (used names) (map (definition_at s) (take i ds))) → HasMoreTerms s old new (used names (definition_at s d))
+      → HasMoreTerms s first new (flat_map (used names) (map (definition_at s) (take (i + 1) ds)))
   definitions-more first old new ds i d at before more =
       let e = ap (λ l. flat_map (used names) (map (definition_at s) l)) at
       ∙ ap (flat_map (used names)) (map-append (definition_at s) (take i ds) (d ∷ []))
       ∙ used-push (map (definition_at s) (take i ds)) (definition_at s d) in
-      subst (Adds s first new) (sym e) (adds-then before more)
+      subst (HasMoreTerms s first new) (sym e) (adds-then before more)
 
   -- ---- what a definition uses
   right-part : (t : Tm Name) → IsPart (symbols_tm names (right_side t)) (symbols_tm names t)
@@ -136,46 +136,46 @@ module _ (s : State) where
   }
 
   pub constant-adds : (old new : List ℕ) (d : code.Definition) (n th : ℕ) → d ≡ definitions.Con n th → IsHeld s d
-      → Adds s old new (symbols_of names (theorem_at s th)) → Adds s old new (used names (definition_at s d))
+      → HasMoreTerms s old new (symbols_of names (theorem_at s th)) → HasMoreTerms s old new (used names (definition_at s d))
   constant-adds old new d n th e held a =
       let same : IsHeld s (definitions.Con n th) = subst (IsHeld s) e held in
-      subst (λ z. Adds s old new (used names (definition_at s z))) (sym e)
-      (subst (λ qs. Adds s old new (symbols_tm names (right_side (theorem_at s th).concl) ++ symbols_in names qs))
+      subst (λ z. HasMoreTerms s old new (used names (definition_at s z))) (sym e)
+      (subst (λ qs. HasMoreTerms s old new (symbols_tm names (right_side (theorem_at s th).concl) ++ symbols_in names qs))
       same.theorems (adds-same (constant-uses (theorem_at s th)) a))
 
   pub list-adds : (old new : List ℕ) (d : code.Definition) (ns : Vec ℕ) (vs : Vec VarKey) (premise th : ℕ)
-      → d ≡ definitions.List ns vs premise th → IsHeld s d → Adds s old new
-      (symbols_in names (map (theorem_at s) (premise ∷ th ∷ []))) → Adds s old new (used names (definition_at s d))
+      → d ≡ definitions.List ns vs premise th → IsHeld s d → HasMoreTerms s old new
+      (symbols_in names (map (theorem_at s) (premise ∷ th ∷ []))) → HasMoreTerms s old new (used names (definition_at s d))
   list-adds old new d ns vs premise th e held a =
       let same : IsHeld s (definitions.List ns vs premise th) = subst (IsHeld s) e held in
-      subst (λ z. Adds s old new (used names (definition_at s z))) (sym e)
-      (subst (λ qs. Adds s old new (symbols_of names (theorem_at s premise) ++ symbols_in names qs)) same.theorems a)
+      subst (λ z. HasMoreTerms s old new (used names (definition_at s z))) (sym e)
+      (subst (λ qs. HasMoreTerms s old new (symbols_of names (theorem_at s premise) ++ symbols_in names qs)) same.theorems a)
 
   pub operator-adds : (old new : List ℕ) (d : code.Definition) (n abs rep : ℕ) (vs : Vec ℕ)
       (premise abs_th rep_th : ℕ) → d ≡ definitions.TyOp n abs rep vs premise abs_th rep_th → IsHeld s d
-      → Adds s old new (symbols_in names (map (theorem_at s) (premise ∷ abs_th ∷ rep_th ∷ [])))
-      → Adds s old new (used names (definition_at s d))
+      → HasMoreTerms s old new (symbols_in names (map (theorem_at s) (premise ∷ abs_th ∷ rep_th ∷ [])))
+      → HasMoreTerms s old new (used names (definition_at s d))
   operator-adds old new d n abs rep vs premise abs_th rep_th e held a =
       let same : IsHeld s (definitions.TyOp n abs rep vs premise abs_th rep_th) = subst (IsHeld s) e held in
-      subst (λ z. Adds s old new (used names (definition_at s z))) (sym e)
-      (subst (λ qs. Adds s old new (symbols_of names (theorem_at s premise) ++ symbols_in names qs)) same.theorems a)
+      subst (λ z. HasMoreTerms s old new (used names (definition_at s z))) (sym e)
+      (subst (λ qs. HasMoreTerms s old new (symbols_of names (theorem_at s premise) ++ symbols_in names qs)) same.theorems a)
 
 -- ---- the terms of a run
 pub run-adds : (s : State) (z a b c d ths : List ℕ) (es : List (Sequent Name)) → z ≡ [] → d ≡ c
-    → map (theorem_at s) ths ≡ s.assumptions → Adds s z a (symbols_in names (map (theorem_at s) ths))
-    → Adds s a b (symbols_in names es) → Adds s b c (flat_map (used names) s.definitions)
-    → Adds s [] d (symbols_of_run s.assumptions es s.definitions)
+    → map (theorem_at s) ths ≡ s.assumptions → HasMoreTerms s z a (symbols_in names (map (theorem_at s) ths))
+    → HasMoreTerms s a b (symbols_in names es) → HasMoreTerms s b c (flat_map (used names) s.definitions)
+    → HasMoreTerms s [] d (symbols_of_run s.assumptions es s.definitions)
 run-adds s z a b c d ths es none same e p q r =
     let all =
-    subst (λ qs. Adds s z c (symbols_in names qs ++ symbols_in names es ++ flat_map (used names) s.definitions)) e
+    subst (λ qs. HasMoreTerms s z c (symbols_in names qs ++ symbols_in names es ++ flat_map (used names) s.definitions)) e
     (adds-then s (adds-then s p q) r) in
-    subst (λ (w : List ℕ × List ℕ). Adds s w.0 w.1 (symbols_of_run s.assumptions es s.definitions))
+    subst (λ (w : List ℕ × List ℕ). HasMoreTerms s w.0 w.1 (symbols_of_run s.assumptions es s.definitions))
     (λ j. (none j, sym same j)) all
 
-pub run-inside : (s : State) (c : List ℕ) (x : List (Symbol Name)) → Adds s [] c x → All (λ i. i < length s.terms) c
+pub run-inside : (s : State) (c : List ℕ) (x : List (Symbol Name)) → HasMoreTerms s [] c x → All (λ i. i < length s.terms) c
 run-inside s c x a = a.inside (All-nil (λ i. i < length s.terms))
 
-pub run-symbols : (s : State) (c : List ℕ) (x ys : List (Symbol Name)) → Adds s [] c x
+pub run-symbols : (s : State) (c : List ℕ) (x ys : List (Symbol Name)) → HasMoreTerms s [] c x
     → IsSameSet ys (symbols_all names (terms_at s c)) → IsSameSet ys x
 run-symbols s c x ys a h = same_set-then h a.symbols
 

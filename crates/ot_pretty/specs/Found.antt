@@ -31,7 +31,7 @@ pub record IsSearch (s : State) (p : Search) : Type 0 where
   pub once : AreDistinct p.symbols.keys
 
 -- with these symbols more, by terms below n and types below m
-pub record Finds (s : State) (n m : ℕ) (old new : Search) (more : List (Symbol Name)) : Type 0 where
+pub record FindsSymbols (s : State) (n m : ℕ) (old new : Search) (more : List (Symbol Name)) : Type 0 where
   pub terms : (i : ℕ) → IsMember i new.terms.keys → IsMember i old.terms.keys ⊎ (i < n)
   pub types : (i : ℕ) → IsMember i new.types.keys → IsMember i old.types.keys ⊎ (i < m)
   pub inside : (x : code.Symbol) → IsMember x new.symbols.keys → IsMember x old.symbols.keys
@@ -42,20 +42,20 @@ pub record Finds (s : State) (n m : ℕ) (old new : Search) (more : List (Symbol
 -- a symbol, a type or a term more, of any kernel
 abbrev pub AddsSymbol : Search → Search → SymbolKind → ℕ → Type 0
 AddsSymbol old new k i = (s : State) (n m : ℕ) → i < length s.names
-    → Finds s n m old new (symbol_named k (name_at s i) ∷ [])
+    → FindsSymbols s n m old new (symbol_named k (name_at s i) ∷ [])
 
 abbrev pub AddsType : Search → Search → ℕ → Type 0
-AddsType old new i = (s : State) (n m : ℕ) → i < m → Finds s n m old new (symbols_ty names (type_at s i))
+AddsType old new i = (s : State) (n m : ℕ) → i < m → FindsSymbols s n m old new (symbols_ty names (type_at s i))
 
 abbrev pub AddsTerm : Search → Search → ℕ → Type 0
-AddsTerm old new i = (s : State) (n m : ℕ) → i < n → Finds s n m old new (symbols_tm names (term_at s i))
+AddsTerm old new i = (s : State) (n m : ℕ) → i < n → FindsSymbols s n m old new (symbols_tm names (term_at s i))
 
 -- types or terms more
 abbrev pub AddsTypes : Search → Search → List ℕ → Type 0
-AddsTypes old new ids = (s : State) (n m : ℕ) → All (λ i. i < m) ids → Finds s n m old new (type_symbols s ids)
+AddsTypes old new ids = (s : State) (n m : ℕ) → All (λ i. i < m) ids → FindsSymbols s n m old new (type_symbols s ids)
 
 abbrev pub AddsTerms : Search → Search → List ℕ → Type 0
-AddsTerms old new ids = (s : State) (n m : ℕ) → All (λ i. i < n) ids → Finds s n m old new (term_symbols s ids)
+AddsTerms old new ids = (s : State) (n m : ℕ) → All (λ i. i < n) ids → FindsSymbols s n m old new (term_symbols s ids)
 
 -- a search for the same symbols
 pub record Reaches (s : State) (old new : Search) : Type 0 where

@@ -26,6 +26,6 @@ abbrev pub named_symbol : State → code.Symbol → Symbol Name
 named_symbol s x = symbol_named x.kind (name_at s x.name)
 
 -- more terms of the kernel, with these symbols
-pub record Adds (s : State) (old new : List ℕ) (more : List (Symbol Name)) : Type 0 where
+pub record HasMoreTerms (s : State) (old new : List ℕ) (more : List (Symbol Name)) : Type 0 where
   pub inside : All (λ i. i < length s.terms) old → All (λ i. i < length s.terms) new
   pub symbols : IsSameSet (symbols_all names (terms_at s new)) (symbols_all names (terms_at s old) ++ more)

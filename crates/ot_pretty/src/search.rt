@@ -6,7 +6,7 @@ ghost use Rattle.ot_logic.specs.Naming.{names};
 ghost use Rattle.ot_logic.specs.Hol.{symbols_tm, symbols_ty};
 ghost use Rattle.ot_kernel.specs.State.{type_at, term_at};
 ghost use Rattle.ot_pretty.specs.Run.{named_symbol};
-ghost use Rattle.ot_pretty.specs.Found.{term_symbols, IsSearch, Finds, Reaches, AddsSymbol};
+ghost use Rattle.ot_pretty.specs.Found.{term_symbols, IsSearch, FindsSymbols, Reaches, AddsSymbol};
 ghost use Rattle.ot_pretty.specs.Found.{AddsType, AddsTerm, AddsTypes, AddsTerms};
 
 use indexmap::IndexSet;
@@ -85,7 +85,7 @@ impl Search {
     /// Adds the symbol of a term, its types and the terms in it.
     fn look_at_term(&mut self, kernel: &Kernel, id: TermId) -> Result<(), Memory>
         requires { id < length kernel.now.terms }
-        ensures { OnOk result (Finds kernel.now id (length kernel.now.types) self.old self.new
+        ensures { OnOk result (FindsSymbols kernel.now id (length kernel.now.types) self.old self.new
             (symbols_tm names (term_at kernel.now id))) }
     {
         match *term_node(kernel, id) {
@@ -108,7 +108,7 @@ impl Search {
     /// Adds the operator of a type and its arguments.
     fn look_at_type(&mut self, kernel: &Kernel, id: TypeId) -> Result<(), Memory>
         requires { id < length kernel.now.types }
-        ensures { OnOk result (Finds kernel.now 0 id self.old self.new (symbols_ty names (type_at kernel.now id))) }
+        ensures { OnOk result (FindsSymbols kernel.now 0 id self.old self.new (symbols_ty names (type_at kernel.now id))) }
     {
         match type_node(kernel, id) {
             TypeNode::Var(_) => Ok(()),

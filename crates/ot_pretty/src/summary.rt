@@ -44,7 +44,7 @@ pub fn readable_summary(
             each_reads_back(kernel, theorems);
             summary_text(alloc, kernel, &notation, theorems, max, out)
         }
-        Err(Memory) => Err(PrintFault::Memory),
+        Err(memory) => Err(PrintFault::Memory(memory)),
     }
 }
 

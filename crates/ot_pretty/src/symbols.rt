@@ -8,7 +8,7 @@ ghost use Rattle.ot_logic.specs.Hol.{symbols_of, symbols_in, symbols_all, used};
 ghost use Rattle.ot_kernel.specs.State.{terms_at, theorem_at};
 ghost use Rattle.ot_kernel.specs.Definitions.{definition_at, IsHeld};
 ghost use Rattle.ot_parse.specs.Symbols.{symbol_of};
-ghost use Rattle.ot_pretty.specs.Run.{symbols_of_run, Adds, named_symbol, symbol_named};
+ghost use Rattle.ot_pretty.specs.Run.{symbols_of_run, HasMoreTerms, named_symbol, symbol_named};
 
 use crate::search::found_symbols;
 use ot_kernel::{Definition, Kernel, ThmId};
@@ -44,7 +44,7 @@ fn add_theorems(
 ) -> Result<(), AllocError>
     requires { All (λ th. th < length kernel.now.theorems) theorems.now }
     ensures { OnOk result
-        (Adds kernel.now roots.old.items roots.new.items
+        (HasMoreTerms kernel.now roots.old.items roots.new.items
         (symbols_in names (map (theorem_at kernel.now) theorems.now))) }
 {
     for th in theorems {
@@ -57,7 +57,7 @@ fn add_theorems(
 fn add_theorem(kernel: &Kernel, th: ThmId, roots: &mut Vec<TermId>) -> Result<(), AllocError>
     requires { th < length kernel.now.theorems }
     ensures { OnOk result
-        (Adds kernel.now roots.old.items roots.new.items (symbols_of names (theorem_at kernel.now th))) }
+        (HasMoreTerms kernel.now roots.old.items roots.new.items (symbols_of names (theorem_at kernel.now th))) }
 {
     roots.extend_from_slice(kernel.hyps(th))?;
     roots.push(kernel.concl(th))?;
@@ -67,7 +67,7 @@ fn add_theorem(kernel: &Kernel, th: ThmId, roots: &mut Vec<TermId>) -> Result<()
 /// Adds the terms of the premises and the theorems of the definitions.
 fn add_definitions(kernel: &Kernel, roots: &mut Vec<TermId>) -> Result<(), AllocError>
     ensures { OnOk result
-        (Adds kernel.now roots.old.items roots.new.items (flat_map (used names) kernel.now.definitions)) }
+        (HasMoreTerms kernel.now roots.old.items roots.new.items (flat_map (used names) kernel.now.definitions)) }
 {
     let definitions = kernel.definitions();
     for definition in definitions {
@@ -85,7 +85,7 @@ fn add_definition(
 ) -> Result<(), AllocError>
     requires { IsHeld kernel.now definition.now }
     ensures { OnOk result
-        (Adds kernel.now roots.old.items roots.new.items (used names (definition_at kernel.now definition.now))) }
+        (HasMoreTerms kernel.now roots.old.items roots.new.items (used names (definition_at kernel.now definition.now))) }
 {
     match definition {
         Definition::Con { th, .. } => add_theorem(kernel, *th, roots),

@@ -80,7 +80,7 @@ on_ok_more P Q (Err e) more h = tt
 
 pub if_ended : (P Q : Verdict → Type 0) (e : Ending) → ((v : Verdict) → P v → Q v) → IfEnded P e → IfEnded Q e
 if_ended P Q (endings.Said v) more has = more v has
-if_ended P Q endings.Memory more has = tt
+if_ended P Q (endings.Memory memory) more has = tt
 
 pub err_ended : {X : Type 0} (P Q : Verdict → Type 0) (r : Result X Ending) → ((v : Verdict) → P v → Q v)
     → IfErr r (IfEnded P)
@@ -140,7 +140,7 @@ module _ (packages path : List ℕ) (at : Option (List ℕ)) (m m' f f' : ℕ) (
       AtStop (repo.Missing (string_bytes p)) said (λ folder may. rw theory (gives folder may)) theory (λ none. cause)
   walk_ended (repos.ReadFault p) gives cause fails v said =
       AtFailure (string_bytes p) said (theory, fails, cause)
-  walk_ended repos.Memory gives cause fails v said = absurd said
+  walk_ended (repos.Memory memory) gives cause fails v said = absurd said
 
   -- the walk was refused, and the verdict says so
   pub walk_refused : (e : RepoFault) (r : Result Verdict NoMemory)

@@ -75,7 +75,7 @@ comes_answer s (Err (faults.Structure path line fault)) l comes = comes
 comes_answer s (Err (faults.TheoryTooLarge path)) l comes = comes
 comes_answer s (Err (faults.NoFile path)) l comes = comes
 comes_answer s (Err (faults.ReadFault path)) l comes = tt
-comes_answer s (Err faults.Memory) l comes = tt
+comes_answer s (Err (faults.Memory memory)) l comes = tt
 
 -- what holds of the end at each fault of an article holds of the end at this one
 pub article_ends : (P : End Ran Stop → Type 0) (o : Option (Fault Name)) (path : List ℕ) (line : ℕ)
@@ -100,7 +100,7 @@ theory_cause s (Err (faults.Structure p line fault)) packages path May at m m' f
 theory_cause s (Err (faults.TheoryTooLarge p)) packages path May at m m' f f' comes cause = (tt, λ is. absurd cc)
 theory_cause s (Err (faults.NoFile p)) packages path May at m m' f f' comes cause = (tt, λ is. cause)
 theory_cause s (Err (faults.ReadFault p)) packages path May at m m' f f' comes cause = (comes, cause)
-theory_cause s (Err faults.Memory) packages path May at m m' f f' comes cause = tt
+theory_cause s (Err (faults.Memory memory)) packages path May at m m' f f' comes cause = tt
 
 theory_end : (packages path : List ℕ) (May : Folder → Type 0) (F : List ℕ → Type 0) (M : Type 0)
     (o : Option (End Ran Stop))
@@ -161,7 +161,7 @@ alone_cause s (Err (faults.Structure p line fault)) path f f' own cause = absurd
 alone_cause s (Err (faults.TheoryTooLarge p)) path f f' own cause = absurd own
 alone_cause s (Err (faults.NoFile p)) path f f' own cause = absurd own
 alone_cause s (Err (faults.ReadFault p)) path f f' own cause = (own, cause)
-alone_cause s (Err faults.Memory) path f f' own cause = tt
+alone_cause s (Err (faults.Memory memory)) path f f' own cause = tt
 
 -- ---- the run of an input
 

@@ -61,7 +61,7 @@ module _ (path : List ℕ) (told : Option Folder) (I : Type 0) (F : List ℕ →
     go (Err (refusals.At line fault)) cause = (tt, λ none. absurd (cause.1 none))
     go (Err refusals.NoFile) cause = (tt, λ none. absurd (cause.1 none))
     go (Err refusals.ReadFault) cause = input_path path _ I F path is refl cause
-    go (Err refusals.Memory) cause = tt
+    go (Err (refusals.Memory memory)) cause = tt
 
   pub standard_checked : (left left' : Option (List ℕ)) (E : Type 0) → is_standard path ≡ true
       → HasRead left left' E (λ bytes rest. (p : List ℕ) → IfSome (log_end_of p r) (IsAnswer (check_bytes bytes)))
@@ -84,7 +84,7 @@ module _ (path : List ℕ) (told : Option Folder) (I : Type 0) (F : List ℕ →
     go (Err (refusals.At line fault)) cause = (tt, cause.1)
     go (Err refusals.NoFile) cause = (tt, cause.1)
     go (Err refusals.ReadFault) cause = file_path path _ I F path is (λ world may. rw is (inl refl)) (failed cause)
-    go (Err refusals.Memory) cause = tt
+    go (Err (refusals.Memory memory)) cause = tt
 
   pub file_checked : (left : Option (List ℕ)) (R : Type 0) → is_standard path ≡ false → (R → F path)
       → HasReadFiles told (λ folder. IfSome ended (IsAnswer (check_file path folder)))

@@ -116,7 +116,7 @@ stops k (faults.Structure path line fault) x ran comes = stop_first x ran _ (com
 stops k (faults.TheoryTooLarge path) x ran comes = stop_first x ran _ (comes k)
 stops k (faults.NoFile path) x ran comes = stop_first x ran _ (comes k)
 stops k (faults.ReadFault path) x ran comes = tt
-stops k faults.Memory x ran comes = tt
+stops k (faults.Memory memory) x ran comes = tt
 
 -- a stop is the same whatever is shown
 same_article : (ns : List Name) (path : List ℕ) (line : ℕ) (o : Option (Fault Name))
@@ -133,7 +133,7 @@ same_stop ns k (faults.Structure path line fault) = refl
 same_stop ns k (faults.TheoryTooLarge path) = refl
 same_stop ns k (faults.NoFile path) = refl
 same_stop ns k (faults.ReadFault path) = refl
-same_stop ns k faults.Memory = refl
+same_stop ns k (faults.Memory memory) = refl
 
 -- ---- its cause
 
@@ -236,7 +236,7 @@ stop_cause k (faults.ReadFault p) packages path May I at m m' f f' theory comes 
     (λ world may. IsMember-left (string_bytes p) (shown_at path world.folder).paths
     (opened_at packages path world.folder) (comes world may k))
     cause
-stop_cause k faults.Memory packages path May I at m m' f f' theory comes cause = tt
+stop_cause k (faults.Memory memory) packages path May I at m m' f f' theory comes cause = tt
 
 pub shown_stops : (k : State) (e : LinkFault) (packages path : List ℕ) (May : World → Type 0) (I : Type 0)
     (at : Option (List ℕ)) (m m' f f' : ℕ)

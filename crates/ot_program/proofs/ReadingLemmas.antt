@@ -70,7 +70,7 @@ text_cause packages path text May n I F A M N (Err readings.NoFile) ran failed m
     (tt, λ is. missed cause)
 text_cause packages path text May n I F A M N (Err readings.ReadFault) ran failed missed cause =
     inr (refl, λ world may. no_stop n (noted_at packages path world) (ran world may), failed cause)
-text_cause packages path text May n I F A M N (Err readings.Memory) ran failed missed cause = tt
+text_cause packages path text May n I F A M N (Err (readings.Memory memory)) ran failed missed cause = tt
 
 pub read_ran : (told : Option Folder) (left left' : Option (List ℕ)) (packages path text : List ℕ) (n : Noted)
     (I : Type 0) (F : List ℕ → Type 0) (A M N : Type 0) (r : Result LinesRead ReadingRefusal)
@@ -262,4 +262,4 @@ module _ (text : List ℕ) where
   text_refused told n readings.TooLarge h = Files-map told _ _ (λ folder is. rw is.1 refl) h
   text_refused told n readings.NoFile h = Files-map told _ _ (λ folder is. rw is.1 refl) h
   text_refused told n readings.ReadFault h = Files-map told _ _ (λ folder any. tt) h
-  text_refused told n readings.Memory h = Files-map told _ _ (λ folder any. tt) h
+  text_refused told n (readings.Memory memory) h = Files-map told _ _ (λ folder any. tt) h

@@ -14,7 +14,7 @@ use Rattle.ot_program.specs.Reply.{Reply, accepted, fails, reply_to, answer, com
 use Rattle.ot_program.specs.Answer.{MatchesReply, IsReport, IsStopLine, IsLargeLine, FileFailed, IsFailureLine}
 use Rattle.ot_program.specs.Answer.{WritesLine, Outputs, IsOutput, SaysWhy, IsErrorLine, Failures, IsAnswered}
 use Rattle.ot_program.specs.World.{World, Every}
-use Rattle.ot_program.specs.Verdicts.{IsReplyOf, IsTextOf, IsSilent, Writes, Ends, error_line}
+use Rattle.ot_program.specs.Verdicts.{IsReplyOf, IsTextOf, IsSilent, WritesText, Ends, error_line}
 use Rattle.ot_program.specs.declared.status.Status.{Status}
 use Rattle.ot_program.specs.declared.status.Status.TheVariants.{Accepted, Refused, Usage, NoFile}
 use Rattle.ot_program.specs.declared.status.Status.TheVariants.{ReadFault, WriteFault, Memory}
@@ -67,7 +67,7 @@ abbrev IsLined : {E : Type 0} → (E → Option (List ℕ)) → (E → ℕ) → 
 IsLined written faults old new text status = IfSome (error_line text status) (WritesLine written faults old new)
 
 same_matches : {E : Type 0} (written : E → Option (List ℕ)) (faults : E → ℕ) (err err' : E) (status : Status)
-    (text : List ℕ) (old new : Option (List ℕ)) → Writes status old new text
+    (text : List ℕ) (old new : Option (List ℕ)) → WritesText status old new text
     → IsLined written faults err err' text status → (reply : Reply)
     → IsReplyOf status text reply → MatchesReply status reply old new (WritesLine written faults err err')
 same_matches written faults err err' Accepted text old new writes line reply is = (
@@ -97,24 +97,24 @@ front_matches written faults err err' text old new front reply is = (
 
 module _ {E : Type 0} (written : E → Option (List ℕ)) (faults : E → ℕ) (err err' : E) where
   matches : (verdict status : Status) (text : List ℕ) (old new : Option (List ℕ)) → Ends verdict status
-      → Writes status old new text → IsLined written faults err err' text status
+      → WritesText status old new text → IsLined written faults err err' text status
       → (reply : Reply) → IsReplyOf verdict text reply
       → MatchesReply status reply old new (WritesLine written faults err err')
   matches verdict status text old new (inl same) writes line reply is =
       subst (λ (s : Status). MatchesReply s reply old new (WritesLine written faults err err')) (sym same)
       (same_matches written faults err err' verdict text old new
-      (subst (λ (s : Status). Writes s old new text) same writes)
+      (subst (λ (s : Status). WritesText s old new text) same writes)
       (subst (IsLined written faults err err' text) same line) reply is)
   matches verdict status text old new (inr failed) writes line reply is =
       subst (λ (s : Status). MatchesReply s reply old new (WritesLine written faults err err')) (sym failed.1)
       (front_matches written faults err err' text old new
-      (subst (λ (s : Status). Writes s old new text) failed.1 writes)
+      (subst (λ (s : Status). WritesText s old new text) failed.1 writes)
       reply (subst (λ (s : Status). IsReplyOf s text reply) failed.0 is))
 
   pub answers : (words : List (List ℕ)) (t : TaskValue) (May : World → Type 0) (I : Type 0) (F : List ℕ → Type 0)
       (verdict status : Status) (text : List ℕ) (old new : Option (List ℕ))
       → task_of words ≡ Some t → IsTextOf verdict t May I F text → Ends verdict status
-      → Writes status old new text → IsLined written faults err err' text status
+      → WritesText status old new text → IsLined written faults err err' text status
       → Every May (λ world. MatchesReply status (answer words world) old new (WritesLine written faults err err'))
   answers words t May I F verdict status text old new read says ends writes line =
       replied words t May I F verdict text
@@ -129,7 +129,7 @@ module _ {O : Type 0} (written : O → Option (List ℕ)) (flushed : O → Optio
   PutsOut status = Outputs status written flushed old new (IsOutput (Some t) May)
 
   same_outputs : (status : Status) (text : List ℕ) → IsTextOf status t May I F text
-      → Writes status (written old) (written new) text → (IsSilent status → new ≡ old)
+      → WritesText status (written old) (written new) text → (IsSilent status → new ≡ old)
       → (status ≡ Accepted → FlushesAll (flushed old) (written new) (flushed new)) → PutsOut status
   same_outputs Accepted text says writes silent flushes =
       record { text = text; is_one = says; is_put = (writes, flushes refl) }
@@ -141,23 +141,23 @@ module _ {O : Type 0} (written : O → Option (List ℕ)) (flushed : O → Optio
   same_outputs Memory text says writes silent flushes = absurd says
 
   outputs : (verdict status : Status) (text : List ℕ) → IsTextOf verdict t May I F text
-      → Ends verdict status → Writes status (written old) (written new) text → (IsSilent status → new ≡ old)
+      → Ends verdict status → WritesText status (written old) (written new) text → (IsSilent status → new ≡ old)
       → (status ≡ Accepted → FlushesAll (flushed old) (written new) (flushed new)) → PutsOut status
   outputs verdict status text says (inl same) writes silent flushes =
       subst PutsOut (sym same)
       (same_outputs verdict text says
-      (subst (λ (s : Status). Writes s (written old) (written new) text) same writes)
+      (subst (λ (s : Status). WritesText s (written old) (written new) text) same writes)
       (subst (λ (s : Status). IsSilent s → new ≡ old) same silent) (λ is. flushes (same ∙ is)))
   outputs verdict status text says (inr failed) writes silent flushes =
       subst PutsOut (sym failed.1) (record {
         text = text;
         is_one = subst (λ (s : Status). IsTextOf s t May I F text) failed.0 says;
-        is_put = subst (λ (s : Status). Writes s (written old) (written new) text) failed.1 writes;
+        is_put = subst (λ (s : Status). WritesText s (written old) (written new) text) failed.1 writes;
       })
 
   pub output_is : (words : List (List ℕ)) (verdict status : Status) (text : List ℕ) → task_of words ≡ Some t
       → IsTextOf verdict t May I F text → Ends verdict status
-      → Writes status (written old) (written new) text → (IsSilent status → new ≡ old)
+      → WritesText status (written old) (written new) text → (IsSilent status → new ≡ old)
       → (status ≡ Accepted → FlushesAll (flushed old) (written new) (flushed new))
       → Outputs status written flushed old new (IsOutput (task_of words) May)
   output_is words verdict status text read says ends writes silent flushes =
@@ -281,7 +281,7 @@ complete words t May at verdict status text i j f g O read says ends unwritten =
 
 -- what another status than these two writes
 pub writes_nothing : (status : Status) (old new : Option (List ℕ)) (text : List ℕ) → ¬ (status ≡ Accepted)
-    → ¬ (status ≡ WriteFault) → Writes status old new text
+    → ¬ (status ≡ WriteFault) → WritesText status old new text
 writes_nothing Accepted old new text loud written = absurd (loud refl)
 writes_nothing WriteFault old new text loud written = absurd (written refl)
 writes_nothing Refused old new text loud written = tt
@@ -330,7 +330,7 @@ module _ {O E : Type 0} (written : O → Option (List ℕ)) (flushed : O → Opt
   pub is_answered : (t : TaskValue) (May : World → Type 0) (at : Option (List ℕ)) (verdict status : Status)
       (text : List ℕ) (i j f g : ℕ) (M P : Type 0)
       → task_of words ≡ Some t → IsTextOf verdict t May (CountRose i j) (FileFailed at f g) text
-      → (verdict ≡ NoFile → M) → Ends verdict status → Writes status (written out) (written out') text
+      → (verdict ≡ NoFile → M) → Ends verdict status → WritesText status (written out) (written out') text
       → (IsSilent status → out' ≡ out)
       → (status ≡ Accepted → FlushesAll (flushed out) (written out') (flushed out'))
       → (status ≡ Accepted → err' ≡ err) → IsLined said faults err err' text status → (status ≡ WriteFault → P)

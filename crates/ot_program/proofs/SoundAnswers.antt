@@ -20,8 +20,8 @@ use Rattle.ot_link.specs.Stops.{Stop, Missing, Linked}
 use Rattle.ot_link.specs.Blocks.{Ran, article_end}
 use Rattle.ot_link.specs.Laws.{IsAnyName, IsLawfulRan, EndsAreLawful}
 use Rattle.ot_uses.specs.Sound.{LawfulIsSound}
-use Rattle.ot_records.specs.Check.{Outcome as LogOutcome, Ends, Stops}
-use Rattle.ot_records.specs.Sound.{LogsAreSound}
+use Rattle.ot_log_format.specs.Check.{Outcome as LogOutcome, Ends, Stops}
+use Rattle.ot_log_format.specs.Sound.{LogsAreSound}
 use Rattle.ot_verify.specs.Reading.{log_check, tokens_of}
 use Rattle.ot_verify.specs.Verifying.{proved_by}
 use Rattle.ot_read.specs.Lines.{RefusedLine, at_line, term_read, lines_read}

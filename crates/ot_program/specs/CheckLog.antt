@@ -3,8 +3,8 @@ use Rattle.std.specs.Prelude.{ℕ, List, [], ◌∷◌, true, length, nat_le, Re
 use Rattle.ot_io.specs.Folder.{Folder, bytes_at, path_asked}
 use Rattle.ot_logic.specs.Answers.{◌>>=◌, some_or}
 use Rattle.ot_logic.specs.Names.{Name}
-use Rattle.ot_records.specs.Check.{Outcome as LogOutcome, Ends, Stops}
-use Rattle.ot_records.specs.Tokens.{LogFault}
+use Rattle.ot_log_format.specs.Check.{Outcome as LogOutcome, Ends, Stops}
+use Rattle.ot_log_format.specs.Tokens.{LogFault}
 use Rattle.ot_verify.specs.Reading.{log_check}
 use Rattle.ot_verify.specs.Verifying.{Proved, proved_by, proved_text}
 use Rattle.ot_program.specs.Command.{Lists, LeavesOther, IsInputPath, Command}

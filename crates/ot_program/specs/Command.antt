@@ -60,20 +60,20 @@ abbrev pub HasNoStop : {A S : Type 0} → Result A S → Type 0
 HasNoStop answer = IfErr answer (λ stop. ⊥)
 
 -- the path of an input that failed: `-`, where standard input failed, or that of a needed file, which failed
-abbrev pub IsReadPath : List ℕ → (IsNeeded : Type 0) → (InputFails : Type 0) → (FileFails : List ℕ → Type 0)
+abbrev pub IsReadPath : List ℕ → (IsNeededFile : Type 0) → (InputFails : Type 0) → (FileFails : List ℕ → Type 0)
     → List ℕ → Type 0
-IsReadPath path IsNeeded InputFails FileFails failed =
-    MatchBool (is_standard path) ((failed ≡ path) × InputFails) (IsNeeded × FileFails failed)
+IsReadPath path IsNeededFile InputFails FileFails failed =
+    MatchBool (is_standard path) ((failed ≡ path) × InputFails) (IsNeededFile × FileFails failed)
 
 -- a file that the input needs, in each world that may be
-abbrev pub IsNeeded : (opened : Folder → List (List ℕ)) → (May : World → Type 0) → List ℕ → Type 0
-IsNeeded opened May file = Every May (λ world. IsMember file (opened world.folder))
+abbrev pub IsNeededFile : (opened : Folder → List (List ℕ)) → (May : World → Type 0) → List ℕ → Type 0
+IsNeededFile opened May file = Every May (λ world. IsMember file (opened world.folder))
 
 -- the path that failed is that of the input, or of a file which it needs
 abbrev pub IsInputPath : (path : List ℕ) → (opened : Folder → List (List ℕ)) → (May : World → Type 0)
     → (InputFails : Type 0) → (FileFails : List ℕ → Type 0) → List ℕ → Type 0
 IsInputPath path opened May InputFails FileFails failed =
-    IsReadPath path (IsNeeded opened May failed) InputFails FileFails failed
+    IsReadPath path (IsNeededFile opened May failed) InputFails FileFails failed
 
 -- ---- the record
 

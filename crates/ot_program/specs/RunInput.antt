@@ -7,7 +7,7 @@ use Rattle.ot_link.specs.Blocks.{Ran}
 use Rattle.ot_link.specs.Stops.{Stop}
 use Rattle.ot_minimise.specs.Minimised.{minimised, IsMinimised}
 use Rattle.ot_print.specs.Texts.{summary_text}
-use Rattle.ot_proof_log.specs.Checked.{run_log, IsLogOf}
+use Rattle.ot_log_law.specs.Checked.{run_log, IsLogOf}
 use Rattle.ot_uses.specs.Suffices.{IsSupported}
 use Rattle.ot_uses.specs.Texts.{uses_text}
 use Rattle.ot_uses.specs.Used.{support_of}

@@ -15,8 +15,8 @@ use Rattle.ot_forms.specs.declared.fault.TextFault.TheVariants as readable
 use Rattle.ot_repo.specs.Required.{Refusal}
 use Rattle.ot_repo.specs.Required as repo
 use Rattle.ot_link.specs.Stops.{Stop, InArticle, InTheory, InStructure, TooLarge, Missing}
-use Rattle.ot_records.specs.Tokens.{LogFault}
-use Rattle.ot_records.specs.Tokens as log
+use Rattle.ot_log_format.specs.Tokens.{LogFault}
+use Rattle.ot_log_format.specs.Tokens as log
 use Rattle.ot_logic.specs.Faults.{Fault, LineTooLong, ArticleTooLong, UnknownCommand, BadName, BadNumber}
 use Rattle.ot_logic.specs.Faults.{NumberRange, VersionUnsupported, VersionLate, StackEmpty, WrongKind}
 use Rattle.ot_logic.specs.Faults.{NoEntry, EmptyList, NotFunction, ArgumentType, NotBool, NotEquation}

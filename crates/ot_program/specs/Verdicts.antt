@@ -10,6 +10,7 @@ use Rattle.ot_logic.specs.Lists.{IsMember}
 use Rattle.ot_logic.specs.declared.memory.Memory.{Memory as NoMemory}
 use Rattle.ot_logic.specs.Names.{Name}
 use Rattle.ot_logic.specs.Trees.{Tm, Sequent}
+use Rattle.ot_logic.specs.RanOut.{ran_out}
 use Rattle.ot_args.specs.declared.sections.Sections.{Sections}
 use Rattle.ot_args.specs.declared.command.Usage as words
 use Rattle.ot_args.specs.Grammar.{is_theory}
@@ -137,7 +138,7 @@ end_at k (faults.Structure path line fault) = Some (Stopped (InStructure (string
 end_at k (faults.TheoryTooLarge path) = Some (Stopped (TooLarge (string_bytes path)))
 end_at k (faults.NoFile path) = Some (Stopped (Missing (string_bytes path)))
 end_at k (faults.ReadFault path) = Some (Failed (string_bytes path))
-end_at k faults.Memory = None
+end_at k (faults.Memory memory) = None
 
 -- the end that an answer stands for
 abbrev pub end_of : Session → Result (Vec Export Global) LinkFault → Option (End Ran Stop)
@@ -171,7 +172,7 @@ IsTextRefusal text (readings.At line column fault) = ⊥
 IsTextRefusal text readings.TooLarge = text ≡ Err TextTooLarge
 IsTextRefusal text readings.NoFile = text ≡ Err NoText
 IsTextRefusal text readings.ReadFault = Unit {0}
-IsTextRefusal text readings.Memory = Unit {0}
+IsTextRefusal text (readings.Memory memory) = Unit {0}
 
 -- why the bytes of a text, or its lines, aren't read: a missing file was counted, and `Failing` holds of a failure
 abbrev pub IsTextCause : ReadingRefusal → (Failing MissRose : Type 0) → Type 0
@@ -179,7 +180,7 @@ IsTextCause (readings.At line column fault) Failing MissRose = Unit {0}
 IsTextCause readings.TooLarge Failing MissRose = Unit {0}
 IsTextCause readings.NoFile Failing MissRose = MissRose
 IsTextCause readings.ReadFault Failing MissRose = Failing
-IsTextCause readings.Memory Failing MissRose = Unit {0}
+IsTextCause (readings.Memory memory) Failing MissRose = Unit {0}
 
 -- the end that the reading of the text of a path stands for; none where memory ran out
 abbrev pub read_end_of : List ℕ → Noted → Result LinesRead ReadingRefusal → Option (End Readings ReadStop)
@@ -190,7 +191,7 @@ read_end_of text n (Err (readings.At line column fault)) =
 read_end_of text n (Err readings.TooLarge) = Some (Stopped TextTooLarge)
 read_end_of text n (Err readings.NoFile) = Some (Stopped NoText)
 read_end_of text n (Err readings.ReadFault) = Some (Failed text)
-read_end_of text n (Err readings.Memory) = None
+read_end_of text n (Err (readings.Memory memory)) = None
 
 -- the end that the check of the log of a path stands for; none where memory ran out
 abbrev pub log_end_of : List ℕ → Result Proved LogRefusal → Option (End Proved LogStop)
@@ -198,7 +199,7 @@ log_end_of path (Ok proved) = Some (Finished proved)
 log_end_of path (Err (refusals.At line fault)) = Some (Stopped (InLog line (log_fault_of fault)))
 log_end_of path (Err refusals.NoFile) = Some (Stopped NoLog)
 log_end_of path (Err refusals.ReadFault) = Some (Failed path)
-log_end_of path (Err refusals.Memory) = None
+log_end_of path (Err (refusals.Memory memory)) = None
 
 -- the end says what is answered
 abbrev pub IsAnswer : {X S : Type 0} → Result X S → End X S → Type 0
@@ -361,12 +362,12 @@ pub data HasEnded {A S : Type 0} (Answers : Result A S → Type 0) (status : S �
 -- an ending by a verdict, where there was memory for it
 abbrev pub ending_of : Result Verdict NoMemory → Ending
 ending_of (Ok v) = endings.Said v
-ending_of (Err memory) = endings.Memory
+ending_of (Err memory) = endings.Memory memory
 
 -- where memory ran out nothing is said
 abbrev pub IfEnded : (Verdict → Type 0) → Ending → Type 0
 IfEnded P (endings.Said v) = P v
-IfEnded P endings.Memory = Unit {0}
+IfEnded P (endings.Memory memory) = Unit {0}
 
 -- the verdict on a walk over packages that was refused so; none where memory ran out
 abbrev pub IsWalkVerdict : RepoFault → Verdict → Type 0
@@ -382,7 +383,7 @@ IsWalkVerdict (repos.RequiresCycle path line) v =
     IsSaid v Refused (required_line (repo.RequiresCycle (string_bytes path) line))
 IsWalkVerdict (repos.NoFile path) v = IsSaid v NoFile (required_line (repo.Missing (string_bytes path)))
 IsWalkVerdict (repos.ReadFault path) v = IsSaid v ReadFault (read_fault_line (string_bytes path))
-IsWalkVerdict repos.Memory v = ⊥
+IsWalkVerdict (repos.Memory memory) v = ⊥
 
 -- what is required, or the runs of packages, are these in each folder that may be
 abbrev pub AnswersIn : {A : Type 0} → (May : Folder → Type 0) → (Folder → A) → A → Type 0
@@ -580,14 +581,14 @@ IsSilent ReadFault = Unit {0}
 IsSilent Memory = Unit {0}
 
 -- a text was written, or a front of it at a write fault
-abbrev pub Writes : Status → Option (List ℕ) → Option (List ℕ) → List ℕ → Type 0
-Writes Accepted old new text = Appends old new text
-Writes WriteFault old new text = AppendsFront old new text
-Writes Refused old new text = Unit {0}
-Writes Usage old new text = Unit {0}
-Writes NoFile old new text = Unit {0}
-Writes ReadFault old new text = Unit {0}
-Writes Memory old new text = Unit {0}
+abbrev pub WritesText : Status → Option (List ℕ) → Option (List ℕ) → List ℕ → Type 0
+WritesText Accepted old new text = Appends old new text
+WritesText WriteFault old new text = AppendsFront old new text
+WritesText Refused old new text = Unit {0}
+WritesText Usage old new text = Unit {0}
+WritesText NoFile old new text = Unit {0}
+WritesText ReadFault old new text = Unit {0}
+WritesText Memory old new text = Unit {0}
 
 -- the program ends with the status of a verdict, or with a write fault where its text is to be printed
 abbrev pub Ends : Status → Status → Type 0

@@ -3,6 +3,7 @@ ghost use Rattle.std.specs.Prelude.{◌≡◌, ◌⊎◌, ◌++◌, List, [], tr
 ghost use Rattle.std.specs.Prelude.{map, string_bytes, IfOk, IfErr, OnOk};
 ghost use Rattle.std.specs.List.{All};
 ghost use Rattle.ot_logic.specs.PlainTrees.{term_of_tree};
+ghost use Rattle.ot_logic.specs.RanOut.{ran_out};
 ghost use Rattle.ot_io.specs.Causes.{CountRose};
 ghost use Rattle.ot_io.specs.Keeping.{KeepsSource};
 ghost use Rattle.ot_args.specs.Grammar.{is_theory};
@@ -23,7 +24,7 @@ ghost use Rattle.ot_program.specs.Verdicts.{noted_of, ran_from, ending_of, IfEnd
 ghost use Rattle.ot_program.specs.Verdicts.{FoundEndsAs, HasMatches, IsPattern, IsSaid, IsWalkVerdict};
 ghost use Rattle.ot_program.specs.Verdicts.{HasEndedPattern, EndsWalk, EndsInput, EndsRun, EndsRuns, IsTaskVerdict};
 
-use crate::input::run_theory;
+use crate::input::{fresh_session, run_theory};
 use crate::noted::{NotedRun, run_noted};
 use crate::report::{
     Verdict, accepted, failed, missing, proved, refused, stopped, theorems_of, too_large,
@@ -60,17 +61,17 @@ pub enum Ending {
     /// It ends with this verdict.
     Said(Verdict),
     /// Memory ran out.
-    Memory,
+    Memory(Memory),
 }
 
 impl From<Memory> for Ending {
     ghost use Rattle.std.specs.Prelude.{◌≡◌};
     ghost use Rattle.ot_program.specs.declared.finding.Ending.TheVariants.{Memory};
 
-    ghost from_gives = { λ _ r. r ≡ Memory };
+    ghost from_gives = { λ _ r. r ≡ Memory ran_out };
 
-    fn from(_: Memory) -> Ending {
-        Ending::Memory
+    fn from(memory: Memory) -> Ending {
+        Ending::Memory(memory)
     }
 }
 
@@ -78,10 +79,10 @@ impl From<AllocError> for Ending {
     ghost use Rattle.std.specs.Prelude.{◌≡◌};
     ghost use Rattle.ot_program.specs.declared.finding.Ending.TheVariants.{Memory};
 
-    ghost from_gives = { λ _ r. r ≡ Memory };
+    ghost from_gives = { λ _ r. r ≡ Memory ran_out };
 
-    fn from(_: AllocError) -> Ending {
-        Ending::Memory
+    fn from(refused: AllocError) -> Ending {
+        Ending::Memory(Memory::from(refused))
     }
 }
 
@@ -109,7 +110,7 @@ pub fn run_finding<F: Files, S: Source>(
     match searched(alloc, query, files, input) {
         Ok(search) => found_verdict(alloc, query.path, search),
         Err(Ending::Said(verdict)) => Ok(verdict),
-        Err(Ending::Memory) => Err(Memory),
+        Err(Ending::Memory(memory)) => Err(memory),
     }
 }
 
@@ -133,7 +134,7 @@ fn searched<F: Files, S: Source>(
     ensures last { IfErr result
         (IfEnded (λ v. LastInput query.entry.path.now (F.folder files.old) (F.at files.new))) }
 {
-    let mut session = Session::new(alloc)?;
+    let mut session = fresh_session(alloc)?;
     search_in(alloc, query, &mut session, files, input)
 }
 
@@ -247,7 +248,7 @@ fn walk_verdict(alloc: Global, fault: RepoFault) -> Result<Verdict, Memory>
         }
         RepoFault::NoFile { path } => missing(alloc, &path),
         RepoFault::ReadFault { path } => failed(alloc, &path),
-        RepoFault::Memory => Err(Memory),
+        RepoFault::Memory(memory) => Err(memory),
     }
 }
 
@@ -257,7 +258,7 @@ fn ending_of(verdict: Result<Verdict, Memory>) -> Ending
 {
     match verdict {
         Ok(verdict) => Ending::Said(verdict),
-        Err(Memory) => Ending::Memory,
+        Err(memory) => Ending::Memory(memory),
     }
 }
 
@@ -313,7 +314,7 @@ fn pattern_term(
         Err(ReadRefusal::At { column, fault }) => Err(ending_of(pattern_verdict(
             alloc, column, fault,
         ))),
-        Err(ReadRefusal::Memory) => Err(Ending::Memory),
+        Err(ReadRefusal::Memory(memory)) => Err(Ending::Memory(memory)),
     }
 }
 
@@ -365,10 +366,32 @@ fn search_package<F: Files>(
         (CountRose (F.misses files.old) (F.misses files.new))) }
     ensures files { ClosesFiles F.folder F.faults F.misses F.left files.old files.new }
 {
+    let mut session = fresh_session(alloc)?;
+    package_in(alloc, &mut session, packages, full, files, pattern, search)
+}
+
+/// The same, in a fresh session.
+fn package_in<F: Files>(
+    alloc: Global,
+    session: &mut Session,
+    packages: &str,
+    full: &str,
+    files: &mut F,
+    pattern: &Tm,
+    search: &mut Search,
+) -> Result<(), Ending>
+    requires full { is_package full.now ≡ true }
+    requires session { IsRun session.old }
+    requires fresh { run_of session.old ≡ fresh_run }
+    ensures searched { HasReadFolder (F.folder files.old) (EndsRun packages.now full.now
+        (term_of_tree pattern.now) search.old search.new result
+        (FileFailed (F.at files.new) (F.faults files.old) (F.faults files.new))
+        (CountRose (F.misses files.old) (F.misses files.new))) }
+    ensures files { ClosesFiles F.folder F.faults F.misses F.left files.old files.new }
+{
     let path = package_path(alloc, packages, full.as_bytes())?;
-    let mut session = Session::new(alloc)?;
-    match run_theory(alloc, &mut session, packages, &path, files) {
-        Ok(exports) => search_exports(alloc, &session, &exports, full, pattern, search),
+    match run_theory(alloc, session, packages, &path, files) {
+        Ok(exports) => search_exports(alloc, session, &exports, full, pattern, search),
         Err(stop) => Err(ending_of(stopped(alloc, session.kernel(), stop))),
     }
 }
@@ -412,6 +435,6 @@ fn found_verdict(alloc: Global, path: &str, search: Search) -> Result<Verdict, M
     match search.finish(alloc, &mut text) {
         Ok(()) => Ok(accepted(text)),
         Err(PrintFault::TooLarge) => too_large(alloc, path),
-        Err(PrintFault::Memory) => Err(Memory),
+        Err(PrintFault::Memory(memory)) => Err(memory),
     }
 }

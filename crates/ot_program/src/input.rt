@@ -21,12 +21,20 @@ use crate::task::Job;
 use ot_args::is_theory;
 use ot_io::{Files, OpenFault, Source};
 use ot_link::{LinkFault, link, run_alone};
-use ot_logic::Limits;
+use ot_logic::{Limits, Memory};
 use ot_machine::{Export, Session};
 use std::alloc::Global;
 
 /// The name of standard input.
 pub const STANDARD: &str = "-";
+
+/// A fresh session, in a box: what owns a box has one part to let go of, and a session has many.
+pub fn fresh_session(alloc: Global) -> Result<Box<Session>, Memory>
+    ensures run { IfOk result (λ s. run_of s.value ≡ fresh_run) }
+    ensures is_run { IfOk result (λ s. IsRun s.value) }
+{
+    Ok(Box::new(alloc, Session::new(alloc)?)?)
+}
 
 /// Runs the input of a job, up to its first fault, and gives its exports: `-` is an article on `input`, a name that
 /// ends in `.thy` a theory file over packages in a folder, and any other name an article file. The session is fresh.

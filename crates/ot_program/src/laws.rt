@@ -2,7 +2,7 @@
 ghost use Rattle.ot_program.specs.Laws.{AnswersAreSound};
 
 use ot_link::ends_law;
-use ot_records::soundness_law;
+use ot_log_format::soundness_law;
 use ot_uses::run_soundness_law;
 
 /// A law: the stated answer, as `run` gives it, is sound. Where a stated task ends, the theorems of what it ends with are

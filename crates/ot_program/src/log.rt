@@ -16,7 +16,7 @@ ghost use Rattle.ot_program.specs.Reply.{command};
 
 use crate::input::STANDARD;
 use ot_io::{Files, OpenFault, Source};
-use ot_logic::Limits;
+use ot_logic::{Limits, Memory};
 use ot_verify::{LogFault, Verified, VerifyFault, verify};
 use std::alloc::Global;
 
@@ -30,7 +30,7 @@ pub enum LogRefusal {
     /// The input failed.
     ReadFault,
     /// There was too little memory.
-    Memory,
+    Memory(Memory),
 }
 
 /// Checks the log of a path, up to its first fault: `-` is a log on `input`, any other name a log file's.
@@ -97,6 +97,6 @@ fn check_source<S: Source>(alloc: Global, source: &mut S) -> Result<Verified, Lo
         Ok(verified) => Ok(verified),
         Err(VerifyFault::At { line, fault }) => Err(LogRefusal::At { line, fault }),
         Err(VerifyFault::ReadFault) => Err(LogRefusal::ReadFault),
-        Err(VerifyFault::Memory) => Err(LogRefusal::Memory),
+        Err(VerifyFault::Memory(memory)) => Err(LogRefusal::Memory(memory)),
     }
 }

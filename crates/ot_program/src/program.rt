@@ -5,14 +5,16 @@ ghost use Rattle.ot_io.specs.Keeping.{KeepsSource};
 ghost use Rattle.ot_io.specs.Sinks.{FlushesAll, AppendsFront};
 ghost use Rattle.ot_args.specs.Grammar.{texts_of, command_of};
 ghost use Rattle.ot_program.specs.World.{HasReadWorld, EachTold};
-ghost use Rattle.ot_program.specs.Tasks.{task_of};
+ghost use Rattle.ot_machine.specs.Meaning.{run_of, IsRun};
+ghost use Rattle.ot_machine.specs.States.{fresh_run};
+ghost use Rattle.ot_program.specs.Tasks.{task_of, ShowReadable};
 ghost use Rattle.ot_program.specs.Answer.{IsAnswered, WritesLine, FileFailed, NoFileIsAsked, LeavesUnasked};
 ghost use Rattle.ot_program.specs.Answer.{ClosesFiles};
-ghost use Rattle.ot_program.specs.Verdicts.{task_value, IsSized, IsTaskVerdict, IsSilent, Writes, Ends, error_line};
+ghost use Rattle.ot_program.specs.Verdicts.{task_value, job_task, IsSized, IsTaskVerdict, IsSilent, WritesText, Ends, error_line};
 ghost use Rattle.ot_program.specs.Reply.{command};
 
 use crate::finding::{Query, run_finding};
-use crate::input::run_input;
+use crate::input::{fresh_session, run_input};
 use crate::log::check_log;
 use crate::noted::run_noted;
 use crate::readable::readable_verdict;
@@ -20,7 +22,7 @@ use crate::reading::run_reading;
 use crate::report::{Verdict, log_verdict, verdict_on};
 use crate::sample::{make_sample, run_sample};
 use crate::status::Status;
-use crate::task::{Task, read_task};
+use crate::task::{Job, Task, read_task};
 use crate::texts::{OUT_OF_MEMORY, USAGE, WRITE_FAULT};
 use ot_args::Usage;
 use ot_io::{Files, Sink, Source, WriteFault, write_whole};
@@ -92,7 +94,7 @@ pub fn run<F: Files, S: Source, O: Sink, E: Sink>(
     match read_task(words) {
         Ok(task) => match run_task(alloc, task, files, input) {
             Ok(verdict) => finish(out, err, &verdict),
-            Err(Memory) => {
+            Err(_) => {
                 say(err, OUT_OF_MEMORY);
                 Status::Memory
             }
@@ -126,9 +128,8 @@ fn run_task<F: Files, S: Source>(
 {
     match task {
         Task::RunInput(job) => {
-            let mut session = Session::new(alloc)?;
-            let ran = run_input(alloc, &mut session, job, files, input);
-            verdict_on(alloc, job, &session, ran)
+            let mut session = fresh_session(alloc)?;
+            job_in(alloc, &mut session, job, files, input)
         }
         Task::RunSample(size) => run_sample(alloc, size),
         Task::MakeSample(size) => make_sample(alloc, size),
@@ -137,9 +138,8 @@ fn run_task<F: Files, S: Source>(
             log_verdict(alloc, path, checked)
         }
         Task::ShowReadable { packages, path } => {
-            let mut session = Session::new(alloc)?;
-            let ran = run_noted(alloc, &mut session, packages, path, files, input);
-            readable_verdict(alloc, path, &session, ran)
+            let mut session = fresh_session(alloc)?;
+            readable_in(alloc, &mut session, packages, path, files, input)
         }
         Task::ReadLines {
             packages,
@@ -161,11 +161,62 @@ fn run_task<F: Files, S: Source>(
     }
 }
 
+/// Runs an input in a fresh session, and makes the text that reports its result.
+fn job_in<F: Files, S: Source>(
+    alloc: Global,
+    session: &mut Session,
+    job: Job<'_>,
+    files: &mut F,
+    input: &mut S,
+) -> Result<Verdict, Memory>
+    requires session { IsRun session.old }
+    requires fresh { run_of session.old ≡ fresh_run }
+    ensures verdict { EachTold ((command (job_task job.entry)).AsksNoFile) (F.folder files.old)
+        (λ told. HasReadWorld told (S.left input.old) (S.left input.new)
+        (λ May. IfOk result (λ v. IsTaskVerdict (job_task job.entry)
+        (CountRose (S.faults input.old) (S.faults input.new))
+        (FileFailed (F.at files.new) (F.faults files.old) (F.faults files.new))
+        (CountRose (F.misses files.old) (F.misses files.new)) v May))) }
+    ensures at { IfOk result (λ _. (command (job_task job.entry)).Last (F.folder files.old) (F.at files.new)) }
+    ensures files { ClosesFiles F.folder F.faults F.misses F.left files.old files.new }
+    ensures source { KeepsSource S.folder S.faults S.misses S.at input.old input.new }
+    ensures other { (command (job_task job.entry)).Leaves files.old files.new input.old input.new }
+{
+    let ran = run_input(alloc, session, job, files, input);
+    verdict_on(alloc, job, session, ran)
+}
+
+/// Runs an input in a fresh session, and makes its text in readable form.
+fn readable_in<F: Files, S: Source>(
+    alloc: Global,
+    session: &mut Session,
+    packages: &str,
+    path: &str,
+    files: &mut F,
+    input: &mut S,
+) -> Result<Verdict, Memory>
+    requires session { IsRun session.old }
+    requires fresh { run_of session.old ≡ fresh_run }
+    ensures verdict { EachTold ((command (ShowReadable packages.now path.now)).AsksNoFile) (F.folder files.old)
+        (λ told. HasReadWorld told (S.left input.old) (S.left input.new)
+        (λ May. IfOk result (λ v. IsTaskVerdict (ShowReadable packages.now path.now)
+        (CountRose (S.faults input.old) (S.faults input.new))
+        (FileFailed (F.at files.new) (F.faults files.old) (F.faults files.new))
+        (CountRose (F.misses files.old) (F.misses files.new)) v May))) }
+    ensures at { IfOk result (λ _. (command (ShowReadable packages.now path.now)).Last (F.folder files.old) (F.at files.new)) }
+    ensures files { ClosesFiles F.folder F.faults F.misses F.left files.old files.new }
+    ensures source { KeepsSource S.folder S.faults S.misses S.at input.old input.new }
+    ensures other { (command (ShowReadable packages.now path.now)).Leaves files.old files.new input.old input.new }
+{
+    let ran = run_noted(alloc, session, packages, path, files, input);
+    readable_verdict(alloc, path, session, ran)
+}
+
 /// Writes a verdict, and says how the program ends.
 fn finish<O: Sink, E: Sink>(out: &mut O, err: &mut E, verdict: &Verdict) -> Status
     requires { verdict.now.status ≢ Status.WriteFault }
     ensures ends { Ends verdict.now.status result }
-    ensures writes { Writes result (O.written out.old) (O.written out.new) verdict.now.text.items }
+    ensures writes { WritesText result (O.written out.old) (O.written out.new) verdict.now.text.items }
     ensures silent { IsSilent result → out.new ≡ out.old }
     ensures flushed { result ≡ Status.Accepted → FlushesAll (O.flushed out.old) (O.written out.new) (O.flushed out.new) }
     ensures quiet { result ≡ Status.Accepted → err.new ≡ err.old }

@@ -62,6 +62,6 @@ fn summary(alloc: Global, path: &str, session: &Session, run: &NotedRun) -> Resu
     ) {
         Ok(()) => Ok(accepted(text)),
         Err(PrintFault::TooLarge) => too_large(alloc, path),
-        Err(PrintFault::Memory) => Err(Memory),
+        Err(PrintFault::Memory(memory)) => Err(memory),
     }
 }

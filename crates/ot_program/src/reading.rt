@@ -5,7 +5,8 @@ ghost use Rattle.ot_io.specs.Causes.{CountRose};
 ghost use Rattle.ot_io.specs.Folder.{path_asked};
 ghost use Rattle.ot_io.specs.Keeping.{KeepsSource};
 ghost use Rattle.ot_io.specs.Readings.{HasReadFiles};
-ghost use Rattle.ot_machine.specs.Meaning.{IsRun, IsExportIn};
+ghost use Rattle.ot_machine.specs.Meaning.{run_of, IsRun, IsExportIn};
+ghost use Rattle.ot_machine.specs.States.{fresh_run};
 ghost use Rattle.ot_parse.specs.Plain.{sequent_of};
 ghost use Rattle.ot_theory.specs.Lines.{lines_of};
 ghost use Rattle.ot_read.specs.Laws.{StandFor};
@@ -19,6 +20,7 @@ ghost use Rattle.ot_program.specs.Verdicts.{noted_of, read_end_of, IsAnswer, IsV
 ghost use Rattle.ot_program.specs.Verdicts.{IsTextRefusal, IsTextCause, IsPrintedAs, IsTaskVerdict};
 ghost use Rattle.ot_program.specs.Reply.{command};
 
+use crate::input::fresh_session;
 use crate::noted::{NotedRun, run_noted};
 use crate::report::{
     Verdict, accepted, failed, missing, proved, refused, stopped, theorems_of, too_large,
@@ -58,7 +60,7 @@ pub enum ReadingRefusal {
     /// The file failed.
     ReadFault,
     /// There was too little memory.
-    Memory,
+    Memory(Memory),
 }
 
 /// Runs an input in a fresh session, reads the lines of the text of a path under the notation of the run, and makes
@@ -82,11 +84,37 @@ pub fn run_reading<F: Files, S: Source>(
     ensures source { KeepsSource S.folder S.faults S.misses S.at input.old input.new }
     ensures other { (command (ReadLines packages.now path.now text.now)).Leaves files.old files.new input.old input.new }
 {
-    let mut session = Session::new(alloc)?;
-    match run_noted(alloc, &mut session, packages, path, files, input) {
+    let mut session = fresh_session(alloc)?;
+    reading_in(alloc, &mut session, packages, path, text, files, input)
+}
+
+/// The same, in a fresh session.
+fn reading_in<F: Files, S: Source>(
+    alloc: Global,
+    session: &mut Session,
+    packages: &str,
+    path: &str,
+    text: &str,
+    files: &mut F,
+    input: &mut S,
+) -> Result<Verdict, Memory>
+    requires session { IsRun session.old }
+    requires fresh { run_of session.old ≡ fresh_run }
+    ensures verdict { HasReadWorld (F.folder files.old) (S.left input.old) (S.left input.new)
+        (λ May. IfOk result (λ v. IsTaskVerdict (ReadLines packages.now path.now text.now)
+        (CountRose (S.faults input.old) (S.faults input.new))
+        (FileFailed (F.at files.new) (F.faults files.old) (F.faults files.new))
+        (CountRose (F.misses files.old) (F.misses files.new)) v May)) }
+    ensures at { IfOk result
+        (λ _. (command (ReadLines packages.now path.now text.now)).Last (F.folder files.old) (F.at files.new)) }
+    ensures files { ClosesFiles F.folder F.faults F.misses F.left files.old files.new }
+    ensures source { KeepsSource S.folder S.faults S.misses S.at input.old input.new }
+    ensures other { (command (ReadLines packages.now path.now text.now)).Leaves files.old files.new input.old input.new }
+{
+    match run_noted(alloc, session, packages, path, files, input) {
         Ok(noted) => {
-            let read = read_text(alloc, &session, &noted, text, files);
-            reading_verdict(alloc, path, text, &session, &noted, read)
+            let read = read_text(alloc, session, &noted, text, files);
+            reading_verdict(alloc, path, text, session, &noted, read)
         }
         Err(stop) => stopped(alloc, session.kernel(), stop),
     }
@@ -127,7 +155,7 @@ fn read_text<F: Files>(
                 column,
                 fault,
             }),
-            Err(LineRefusal::Memory) => Err(ReadingRefusal::Memory),
+            Err(LineRefusal::Memory(memory)) => Err(ReadingRefusal::Memory(memory)),
         },
         Err(refusal) => Err(refusal),
     }
@@ -157,7 +185,7 @@ fn bytes_of<F: Files>(alloc: Global, text: &str, files: &mut F) -> Result<Vec<u8
                     }
                 }
                 Err(ReadFault::Failed) => Err(ReadingRefusal::ReadFault),
-                Err(ReadFault::Memory) => Err(ReadingRefusal::Memory),
+                Err(ReadFault::Memory(memory)) => Err(ReadingRefusal::Memory(memory)),
             }
         }
         Err(OpenFault::Missing) => Err(ReadingRefusal::NoFile),
@@ -180,11 +208,13 @@ fn read_bytes(
         (lines_of text.now) (map sequent_of read.items)) }
     ensures refused { IfErr result (IsLineRefusal (lines_read (notation (noted_of session.now run.now)) (lines_of text.now))) }
 {
-    let Ok(theorems) = theorems_of(alloc, &run.exports) else {
-        return Err(LineRefusal::Memory);
+    let theorems = match theorems_of(alloc, &run.exports) {
+        Ok(theorems) => theorems,
+        Err(refused) => return Err(LineRefusal::Memory(refused.into())),
     };
-    let Ok(notation) = run_notation(alloc, session.kernel(), &run.names, &theorems) else {
-        return Err(LineRefusal::Memory);
+    let notation = match run_notation(alloc, session.kernel(), &run.names, &theorems) {
+        Ok(notation) => notation,
+        Err(memory) => return Err(LineRefusal::Memory(memory)),
     };
     notation.sound();
     as_the_forms_say();
@@ -225,7 +255,7 @@ fn reading_verdict(
         }
         Err(ReadingRefusal::NoFile) => missing(alloc, text),
         Err(ReadingRefusal::ReadFault) => failed(alloc, text),
-        Err(ReadingRefusal::Memory) => Err(Memory),
+        Err(ReadingRefusal::Memory(memory)) => Err(memory),
     }
 }
 
@@ -236,6 +266,6 @@ fn printed(alloc: Global, path: &str, sequents: &[Readable]) -> Result<Verdict, 
     match sequents_text(alloc, sequents, Limits::standard().summary_bytes) {
         Ok(text) => Ok(accepted(text)),
         Err(PlainFault::TooLarge) => too_large(alloc, path),
-        Err(PlainFault::Memory) => Err(Memory),
+        Err(PlainFault::Memory(memory)) => Err(memory),
     }
 }

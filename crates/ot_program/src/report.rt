@@ -86,7 +86,7 @@ pub fn log_verdict(
         }
         Err(LogRefusal::NoFile) => missing(alloc, path),
         Err(LogRefusal::ReadFault) => failed(alloc, path),
-        Err(LogRefusal::Memory) => Err(Memory),
+        Err(LogRefusal::Memory(memory)) => Err(memory),
     }
 }
 
@@ -122,7 +122,7 @@ pub fn stopped(alloc: Global, kernel: &Kernel, stop: LinkFault) -> Result<Verdic
         }
         LinkFault::NoFile { path } => missing(alloc, &path),
         LinkFault::ReadFault { path } => failed(alloc, &path),
-        LinkFault::Memory => Err(Memory),
+        LinkFault::Memory(memory) => Err(memory),
     }
 }
 
@@ -259,7 +259,7 @@ fn summary(
     ) {
         Ok(()) => Ok(accepted(text)),
         Err(PrintFault::TooLarge) => too_large(alloc, path),
-        Err(PrintFault::Memory) => Err(Memory),
+        Err(PrintFault::Memory(memory)) => Err(memory),
     }
 }
 
@@ -277,7 +277,7 @@ fn uses(alloc: Global, path: &str, session: &Session, exports: &[Export]) -> Res
     match uses_text(alloc, session, exports, limit, &mut text) {
         Ok(()) => Ok(accepted(text)),
         Err(PrintFault::TooLarge) => Ok(too_large(alloc, path)?),
-        Err(PrintFault::Memory) => Err(Memory),
+        Err(PrintFault::Memory(memory)) => Err(memory),
     }
 }
 
@@ -319,7 +319,7 @@ fn article_of(
     match minimise(alloc, session, exports, limit, &mut text) {
         Ok(()) => Ok(Some(text)),
         Err(WriteRefusal::TooLarge) => Ok(None),
-        Err(WriteRefusal::Memory) => Err(Memory),
+        Err(WriteRefusal::Memory(memory)) => Err(memory),
     }
 }
 
@@ -349,7 +349,7 @@ fn logged(
     match write_log(alloc, session, exports, limit, &mut text) {
         Ok(()) => Ok(accepted(text)),
         Err(WriterRefusal::TooLarge) => Ok(large_log(alloc, path)?),
-        Err(WriterRefusal::Memory) => Err(Memory),
+        Err(WriterRefusal::Memory(memory)) => Err(memory),
     }
 }
 
@@ -478,7 +478,7 @@ fn log_summary(alloc: Global, path: &str, verified: &Verified) -> Result<Verdict
     match verified.text(alloc, max, &mut text) {
         Ok(()) => Ok(accepted(text)),
         Err(VerifiedText::TooLarge) => too_large(alloc, path),
-        Err(VerifiedText::Memory) => Err(Memory),
+        Err(VerifiedText::Memory(memory)) => Err(memory),
     }
 }
 

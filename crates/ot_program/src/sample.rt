@@ -1,10 +1,12 @@
 //! The sample: an article of a size that is made, run and rewritten.
-ghost use Rattle.std.specs.Prelude.{◌≤◌, IfOk};
+ghost use Rattle.std.specs.Prelude.{◌≡◌, ◌≤◌, IfOk};
+ghost use Rattle.ot_machine.specs.Meaning.{run_of, IsRun};
+ghost use Rattle.ot_machine.specs.States.{fresh_run};
 ghost use Rattle.ot_program.specs.World.{anywhere};
 ghost use Rattle.ot_program.specs.Tasks.{RunSample, MakeSample};
 ghost use Rattle.ot_program.specs.Verdicts.{IsTaskVerdict};
 
-use crate::input::run_article;
+use crate::input::{fresh_session, run_article};
 use crate::report::{Verdict, made_verdict, sample_verdict};
 use ot_io::Bytes;
 use ot_logic::Memory;
@@ -20,12 +22,22 @@ pub fn run_sample(alloc: Global, size: u64) -> Result<Verdict, Memory>
     requires { size ≤ 1000 }
     ensures { IfOk result (λ v. IsTaskVerdict (RunSample size) ⊥ (λ file. ⊥) ⊥ v anywhere) }
 {
+    let mut session = fresh_session(alloc)?;
+    sample_in(alloc, &mut session, size)
+}
+
+/// The same, in a fresh session.
+fn sample_in(alloc: Global, session: &mut Session, size: u64) -> Result<Verdict, Memory>
+    requires size { size ≤ 1000 }
+    requires session { IsRun session.old }
+    requires fresh { run_of session.old ≡ fresh_run }
+    ensures { IfOk result (λ v. IsTaskVerdict (RunSample size) ⊥ (λ file. ⊥) ⊥ v anywhere) }
+{
     let mut made = Vec::new(alloc);
     sample_article(size, &mut made)?;
-    let mut session = Session::new(alloc)?;
     let path = String::from_str(alloc, SAMPLE)?;
-    let ran = run_article(alloc, &mut session, path, &mut Bytes::new(&made));
-    sample_verdict(alloc, size, &made, &session, ran)
+    let ran = run_article(alloc, session, path, &mut Bytes::new(&made));
+    sample_verdict(alloc, size, &made, session, ran)
 }
 
 /// Makes the sample article of a size, 1 to 1,000.

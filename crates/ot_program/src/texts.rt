@@ -1,6 +1,7 @@
 ghost use Rattle.std.specs.Prelude.{◌≡◌, ◌≢◌, ◌<◌, ◌++◌, length, IfOk, IsSomeAnd, OnOk, codes};
 ghost use Rattle.std.specs.Fmt.{signed_decimal};
 ghost use Rattle.ot_logic.specs.Renamed.{map_symbol};
+ghost use Rattle.ot_logic.specs.RanOut.{ran_out};
 ghost use Rattle.ot_kernel.specs.State.{name_at};
 ghost use Rattle.ot_term.specs.Symbols.{symbol_of};
 ghost use Rattle.ot_machine.specs.Faults.{fault_of};
@@ -129,7 +130,7 @@ pub fn fault_line(
     fault: Fault,
 ) -> Result<Vec<u8>, Memory>
     requires symbol { IsSymbolIn kernel.now fault }
-    requires apart { fault ≢ Fault.Memory }
+    requires apart { fault ≢ Fault.Memory ran_out }
     ensures { IfOk result (λ line. IsSomeAnd (fault_of (name_at kernel.now) fault)
         (λ f. line.items ≡ fault_line path.now number f)) }
 {
@@ -167,7 +168,7 @@ fn kind_text(kind: Kind) -> &'static str
 /// Appends the text of a fault. Running out of memory is no fault of an article.
 fn add_fault(alloc: Global, kernel: &Kernel, fault: Fault, out: &mut Vec<u8>) -> Result<(), Memory>
     requires symbol { IsSymbolIn kernel.now fault }
-    requires apart { fault ≢ Fault.Memory }
+    requires apart { fault ≢ Fault.Memory ran_out }
     ensures { OnOk result
         (IsSomeAnd (fault_of (name_at kernel.now) fault) (λ f. out.new.items ≡ out.old.items ++ fault_text f)) }
 {
@@ -203,7 +204,7 @@ fn add_fault(alloc: Global, kernel: &Kernel, fault: Fault, out: &mut Vec<u8>) ->
         Fault::NotApplication => add(out, "conclusion is not an application"),
         Fault::BadTypeVars => add(out, "bad type variable list"),
         Fault::Nesting => add(out, "nested deeper than 4096"),
-        Fault::Memory => unreachable!(),
+        Fault::Memory(_) => unreachable!(),
     }
 }
 

@@ -59,4 +59,4 @@ sequent_lines qs = flat_map (λ q. sequent_text q ++ 10 ∷ []) qs
 abbrev pub IsLineRefusal : {A : Type 0} → Result A RefusedLine → LineRefusal → Type 0
 IsLineRefusal read (refusals.At line column fault) =
     read ≡ Err (record { line = line; column = column; fault = fault })
-IsLineRefusal read refusals.Memory = Unit {0}
+IsLineRefusal read (refusals.Memory memory) = Unit {0}

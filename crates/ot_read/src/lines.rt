@@ -5,6 +5,7 @@ ghost use Rattle.ot_theory.specs.Lines.{lines_of};
 ghost use Rattle.ot_read.specs.Lines.{line_read, at_line, lines_read, IsLineRefusal};
 
 use crate::laws::as_the_forms_say;
+use ot_logic::Memory;
 use ot_parse::{Notation, ReadRefusal, Readable, TextFault, read_sequent};
 use ot_theory::next_line;
 use std::alloc::Global;
@@ -19,7 +20,7 @@ pub enum LineRefusal {
         fault: TextFault,
     },
     /// Memory ran out.
-    Memory,
+    Memory(Memory),
 }
 
 /// The sequents that the lines of a text stand for under this notation, in order. Lines end at a line feed, are
@@ -38,9 +39,9 @@ pub fn read_lines(
     let mut number = 0;
     'lines: while let Some(line) = next_line(text, &mut at, &mut number) {
         let sequent = line_at(alloc, notation, line.number, line.text)?;
-        let Ok(()) = read.push(sequent) else {
-            return Err(LineRefusal::Memory);
-        };
+        if let Err(refused) = read.push(sequent) {
+            return Err(LineRefusal::Memory(Memory::from(refused)));
+        }
     }
     Ok(read)
 }
@@ -64,6 +65,6 @@ fn line_at(
             column,
             fault,
         }),
-        Err(ReadRefusal::Memory) => Err(LineRefusal::Memory),
+        Err(ReadRefusal::Memory(memory)) => Err(LineRefusal::Memory(memory)),
     }
 }

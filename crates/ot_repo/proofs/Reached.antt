@@ -21,7 +21,7 @@ use Rattle.ot_repo.specs.Required.{theory_at, is_requirement, requirements, inde
 use Rattle.ot_repo.specs.Required.{names_of, index_at, index_path, edges_in, edges_of, walked}
 use Rattle.ot_repo.specs.Required.{required_listed, required_over}
 use Rattle.ot_repo.specs.Laws.{IsWalked, OwnFile, ListFile, PackageFile}
-use Rattle.ot_repo.specs.Answers.{FailsAt, IsInside}
+use Rattle.ot_repo.specs.Answers.{FailsAt, IsOfContent}
 use Rattle.ot_repo.specs.Reading.{edges_left, IsReachedFile, IsTagFile, TheList, OfPackage, next_at}
 use Rattle.ot_repo.specs.declared.fault.RepoFault.{RepoFault}
 use Rattle.ot_repo.specs.declared.fault.RepoFault.TheVariants as faults
@@ -44,10 +44,10 @@ fails_more P Q (faults.NotInstalled path line) more fails = tt
 fails_more P Q (faults.RequiresCycle path line) more fails = tt
 fails_more P Q (faults.NoFile path) more fails = tt
 fails_more P Q (faults.ReadFault path) more fails = more (string_bytes path) fails
-fails_more P Q faults.Memory more fails = tt
+fails_more P Q (faults.Memory memory) more fails = tt
 
 -- where no file is read there is no failure
-pub inside_fails : (P : List ℕ → Type 0) (e : RepoFault) → IsInside e → FailsAt P e
+pub inside_fails : (P : List ℕ → Type 0) (e : RepoFault) → IsOfContent e → FailsAt P e
 inside_fails P (faults.Theory path line fault) inside = tt
 inside_fails P (faults.TheoryTooLarge path) inside = tt
 inside_fails P (faults.IndexTooLarge path) inside = tt
@@ -56,7 +56,7 @@ inside_fails P (faults.NotInstalled path line) inside = tt
 inside_fails P (faults.RequiresCycle path line) inside = tt
 inside_fails P (faults.NoFile path) inside = tt
 inside_fails P (faults.ReadFault path) inside = let rose = (inside 0 0 0 0 None).0 in absurd (omega (arith, rose))
-inside_fails P faults.Memory inside = tt
+inside_fails P (faults.Memory memory) inside = tt
 
 -- ---- the walk
 

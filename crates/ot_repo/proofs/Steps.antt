@@ -293,7 +293,7 @@ carried (faults.NotInstalled path line) r s more is = more (NotInstalled (string
 carried (faults.RequiresCycle path line) r s more is = more (RequiresCycle (string_bytes path) line) is
 carried (faults.NoFile path) r s more is = more (Missing (string_bytes path)) is
 carried (faults.ReadFault path) r s more is = tt
-carried faults.Memory r s more is = tt
+carried (faults.Memory memory) r s more is = tt
 
 -- ---- what holds of the code's state
 pub start_so_far : (listed : List (List ℕ)) (marked : List ℕ → Option Mark) (first : File)

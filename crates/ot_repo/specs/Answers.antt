@@ -27,12 +27,12 @@ Refuses (faults.NotInstalled path line) stated = stated ≡ Err (NotInstalled (s
 Refuses (faults.RequiresCycle path line) stated = stated ≡ Err (RequiresCycle (string_bytes path) line)
 Refuses (faults.NoFile path) stated = stated ≡ Err (Missing (string_bytes path))
 Refuses (faults.ReadFault path) stated = Unit {0}
-Refuses faults.Memory stated = Unit {0}
+Refuses (faults.Memory memory) stated = Unit {0}
 
 -- what was made is what is stated
-abbrev pub Gives : {X A : Type 0} → (X → A) → Result X RepoFault → Result A Refusal → Type 0
-Gives view (Ok x) stated = stated ≡ Ok (view x)
-Gives view (Err e) stated = Refuses e stated
+abbrev pub IsAsStated : {X A : Type 0} → (X → A) → Result X RepoFault → Result A Refusal → Type 0
+IsAsStated view (Ok x) stated = stated ≡ Ok (view x)
+IsAsStated view (Err e) stated = Refuses e stated
 
 -- a missing file is counted, and so is a failure, which is one of the path that was asked for, where that is known
 abbrev pub HasCause : RepoFault → ℕ → ℕ → ℕ → ℕ → Option (List ℕ) → Type 0
@@ -45,11 +45,11 @@ HasCause (faults.IndexTooLarge path) misses misses' faults faults' at = Unit {0}
 HasCause (faults.BadIndex path line) misses misses' faults faults' at = Unit {0}
 HasCause (faults.NotInstalled path line) misses misses' faults faults' at = Unit {0}
 HasCause (faults.RequiresCycle path line) misses misses' faults faults' at = Unit {0}
-HasCause faults.Memory misses misses' faults faults' at = Unit {0}
+HasCause (faults.Memory memory) misses misses' faults faults' at = Unit {0}
 
 -- no file is missing, and no read failed
-abbrev pub IsInside : RepoFault → Type 0
-IsInside e = (misses misses' faults faults' : ℕ) (at : Option (List ℕ)) → HasCause e misses misses' faults faults' at
+abbrev pub IsOfContent : RepoFault → Type 0
+IsOfContent e = (misses misses' faults faults' : ℕ) (at : Option (List ℕ)) → HasCause e misses misses' faults faults' at
 
 -- a read fault is at such a path
 abbrev pub FailsAt : (List ℕ → Type 0) → RepoFault → Type 0
@@ -61,10 +61,10 @@ FailsAt P (faults.BadIndex path line) = Unit {0}
 FailsAt P (faults.NotInstalled path line) = Unit {0}
 FailsAt P (faults.RequiresCycle path line) = Unit {0}
 FailsAt P (faults.NoFile path) = Unit {0}
-FailsAt P faults.Memory = Unit {0}
+FailsAt P (faults.Memory memory) = Unit {0}
 
 -- the answer is the stated one, and a read fault is at such a path
 pub record IsAnswer {X A : Type 0} (view : X → A) (Needs : List ℕ → Type 0) (result : Result X RepoFault)
     (stated : Result A Refusal) : Type 0 where
-  pub gives : Gives view result stated
+  pub gives : IsAsStated view result stated
   pub fails : IfErr result (FailsAt Needs)

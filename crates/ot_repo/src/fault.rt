@@ -1,3 +1,5 @@
+ghost use Rattle.ot_logic.specs.RanOut.{ran_out};
+
 use ot_logic::Memory as NoMemory;
 use ot_theory::TheoryFault;
 use std::alloc::{AllocError, AllocFailed};
@@ -42,17 +44,17 @@ pub enum RepoFault {
     ReadFault {
         path: String,
     },
-    Memory,
+    Memory(NoMemory),
 }
 
 impl From<NoMemory> for RepoFault {
     ghost use Rattle.std.specs.Prelude.{◌≡◌};
     ghost use Rattle.ot_repo.specs.declared.fault.RepoFault.TheVariants.{Memory};
 
-    ghost from_gives = { λ _ r. r ≡ Memory };
+    ghost from_gives = { λ _ r. r ≡ Memory ran_out };
 
-    fn from(_: NoMemory) -> RepoFault {
-        RepoFault::Memory
+    fn from(memory: NoMemory) -> RepoFault {
+        RepoFault::Memory(memory)
     }
 }
 
@@ -60,10 +62,10 @@ impl From<AllocError> for RepoFault {
     ghost use Rattle.std.specs.Prelude.{◌≡◌};
     ghost use Rattle.ot_repo.specs.declared.fault.RepoFault.TheVariants.{Memory};
 
-    ghost from_gives = { λ _ r. r ≡ Memory };
+    ghost from_gives = { λ _ r. r ≡ Memory ran_out };
 
-    fn from(_: AllocError) -> RepoFault {
-        RepoFault::Memory
+    fn from(refused: AllocError) -> RepoFault {
+        RepoFault::Memory(NoMemory::from(refused))
     }
 }
 
@@ -71,9 +73,9 @@ impl<T: Drop> From<AllocFailed<T>> for RepoFault {
     ghost use Rattle.std.specs.Prelude.{◌≡◌};
     ghost use Rattle.ot_repo.specs.declared.fault.RepoFault.TheVariants.{Memory};
 
-    ghost from_gives = { λ _ r. r ≡ Memory };
+    ghost from_gives = { λ _ r. r ≡ Memory ran_out };
 
-    fn from(_: AllocFailed<T>) -> RepoFault {
-        RepoFault::Memory
+    fn from(refused: AllocFailed<T>) -> RepoFault {
+        RepoFault::Memory(NoMemory::from(refused))
     }
 }

@@ -4,7 +4,7 @@ ghost use Rattle.std.specs.Option.{option_map};
 ghost use Rattle.ot_theory.specs.Lines.{lines_of};
 ghost use Rattle.ot_blocks.specs.Paths.{is_package};
 ghost use Rattle.ot_repo.specs.Required.{names_of, picked, picked_by_name};
-ghost use Rattle.ot_repo.specs.Answers.{ArePackages, Gives, IsInside};
+ghost use Rattle.ot_repo.specs.Answers.{ArePackages, IsAsStated, IsOfContent};
 ghost use Rattle.ot_repo.specs.Reading.{texts_of, listed_in, IsIndex, value_in};
 
 use crate::fault::RepoFault;
@@ -26,9 +26,9 @@ pub(crate) struct Index<'a> {
 impl<'a> Index<'a> {
     /// The list that the file of this path has.
     pub fn read(alloc: Global, path: &str, text: &'a [u8]) -> Result<Index<'a>, RepoFault>
-        ensures names { Gives listed_in result (names_of path.now (lines_of text.now)) }
+        ensures names { IsAsStated listed_in result (names_of path.now (lines_of text.now)) }
         ensures index { IfOk result IsIndex }
-        ensures inside { IfErr result IsInside }
+        ensures inside { IfErr result IsOfContent }
     {
         let names = full_names(alloc, path, text)?;
         let picks = picks_of(alloc, &names)?;
@@ -47,10 +47,10 @@ impl<'a> Index<'a> {
 
 /// The full names in the lines of a text.
 fn full_names<'a>(alloc: Global, path: &str, text: &'a [u8]) -> Result<Vec<&'a [u8]>, RepoFault>
-    ensures names { Gives (λ names. texts_of names.items) result
+    ensures names { IsAsStated (λ names. texts_of names.items) result
         (names_of path.now (lines_of text.now)) }
     ensures full { IfOk result (λ names. ArePackages (texts_of names.items)) }
-    ensures inside { IfErr result IsInside }
+    ensures inside { IfErr result IsOfContent }
 {
     let mut names = Vec::new(alloc);
     let mut at = 0;

@@ -5,7 +5,7 @@ ghost use Rattle.ot_io.specs.Keeping.{KeepsFiles};
 ghost use Rattle.ot_theory.specs.Theory.{theory};
 ghost use Rattle.ot_theory.specs.Answers.{theory_of};
 ghost use Rattle.ot_repo.specs.Required.{TheoryTooLarge, IndexTooLarge, text_at, in_file, index_limit};
-ghost use Rattle.ot_repo.specs.Answers.{FailsAt, Gives, HasCause, IsInside};
+ghost use Rattle.ot_repo.specs.Answers.{FailsAt, IsAsStated, HasCause, IsOfContent};
 ghost use Rattle.std.specs.Option.{option_map};
 ghost use Rattle.ot_repo.specs.Reading.{sized_at};
 
@@ -24,7 +24,7 @@ pub(crate) fn theory_text<F: Files>(
     path: &str,
     max_bytes: usize,
 ) -> Result<Vec<u8>, RepoFault>
-    ensures text { HasReadFiles (F.folder files.old) (λ folder. Gives (λ text. text.items) result
+    ensures text { HasReadFiles (F.folder files.old) (λ folder. IsAsStated (λ text. text.items) result
         (text_at folder max_bytes (TheoryTooLarge path.now) path.now)) }
     ensures cause { IfErr result (λ e. HasCause e (F.misses files.old) (F.misses files.new)
         (F.faults files.old) (F.faults files.new) (F.at files.new)) }
@@ -46,7 +46,7 @@ pub(crate) fn index_text<F: Files>(
     files: &mut F,
     path: &str,
 ) -> Result<Vec<u8>, RepoFault>
-    ensures text { HasReadFiles (F.folder files.old) (λ folder. Gives (λ text. text.items) result
+    ensures text { HasReadFiles (F.folder files.old) (λ folder. IsAsStated (λ text. text.items) result
         (text_at folder index_limit (IndexTooLarge path.now) path.now)) }
     ensures cause { IfErr result (λ e. HasCause e (F.misses files.old) (F.misses files.new)
         (F.faults files.old) (F.faults files.new) (F.at files.new)) }
@@ -70,7 +70,7 @@ fn file_text<F: Files>(
     max_bytes: usize,
 ) -> Result<Option<Vec<u8>>, RepoFault>
     ensures text { HasReadFiles (F.folder files.old) (λ folder.
-        Gives (option_map (λ text. text.items)) result (sized_at folder max_bytes path.now)) }
+        IsAsStated (option_map (λ text. text.items)) result (sized_at folder max_bytes path.now)) }
     ensures cause { IfErr result (λ e. HasCause e (F.misses files.old) (F.misses files.new)
         (F.faults files.old) (F.faults files.new) (F.at files.new)) }
     ensures kept { KeepsFiles F.folder F.faults F.misses files.old files.new }
@@ -83,7 +83,7 @@ fn file_text<F: Files>(
                 let path = String::from_str(alloc, path)?;
                 Err(RepoFault::ReadFault { path })
             }
-            Err(ReadFault::Memory) => Err(RepoFault::Memory),
+            Err(ReadFault::Memory(memory)) => Err(RepoFault::Memory(memory)),
         },
         Err(OpenFault::Missing) => {
             let path = String::from_str(alloc, path)?;
@@ -102,8 +102,8 @@ pub(crate) fn theory_in<'a>(
     path: &str,
     text: &'a [u8],
 ) -> Result<Theory<'a>, RepoFault>
-    ensures theory { Gives theory_of result (in_file path.now (theory text.now)) }
-    ensures inside { IfErr result IsInside }
+    ensures theory { IsAsStated theory_of result (in_file path.now (theory text.now)) }
+    ensures inside { IfErr result IsOfContent }
 {
     match parse(alloc, text) {
         Ok(theory) => Ok(theory),
@@ -111,6 +111,6 @@ pub(crate) fn theory_in<'a>(
             let path = String::from_str(alloc, path)?;
             Err(RepoFault::Theory { path, line, fault })
         }
-        Err(TheoryError::Memory) => Err(RepoFault::Memory),
+        Err(TheoryError::Memory(memory)) => Err(RepoFault::Memory(memory)),
     }
 }

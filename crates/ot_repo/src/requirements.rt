@@ -8,7 +8,7 @@ ghost use Rattle.ot_theory.specs.Answers.{tag_of, tags_of};
 ghost use Rattle.ot_blocks.specs.Paths.{is_package, package_path};
 ghost use Rattle.ot_logic.specs.Lists.{IsMember};
 ghost use Rattle.ot_repo.specs.Required.{is_requirement, edge_of, edges_of};
-ghost use Rattle.ot_repo.specs.Answers.{FailsAt, Gives, HasCause};
+ghost use Rattle.ot_repo.specs.Answers.{FailsAt, IsAsStated, HasCause};
 ghost use Rattle.ot_repo.specs.Reading.{listed_in, IsIndex, edge_at, edges_left, AreListed};
 
 use crate::fault::RepoFault;
@@ -88,7 +88,7 @@ pub(crate) fn package_file<'a, F: Files>(
 ) -> Result<File<'a>, RepoFault>
     requires index { IsIndex index.now }
     requires full { is_package full.now ≡ true }
-    ensures edges { HasReadFiles (F.folder files.old) (λ folder. Gives edges_left result
+    ensures edges { HasReadFiles (F.folder files.old) (λ folder. IsAsStated edges_left result
         (edges_of folder setting.entry.max_bytes setting.entry.packages.now
         (listed_in index.now) full.now)) }
     ensures listed { IfOk result (λ file. AreListed (listed_in index.now) file.left.items) }

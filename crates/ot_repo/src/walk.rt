@@ -7,7 +7,7 @@ ghost use Rattle.ot_io.specs.Readings.{HasReadFiles};
 ghost use Rattle.ot_io.specs.Keeping.{KeepsFiles};
 ghost use Rattle.ot_repo.specs.Walk.{walk_from};
 ghost use Rattle.ot_repo.specs.Required.{edges_of, walked};
-ghost use Rattle.ot_repo.specs.Answers.{ArePackages, Gives, IsAnswer, names_of, HasCause, IsInside};
+ghost use Rattle.ot_repo.specs.Answers.{ArePackages, IsAsStated, IsAnswer, names_of, HasCause, IsOfContent};
 ghost use Rattle.ot_repo.specs.Reading.{listed_in, IsIndex, IsReachedFile, edge_at};
 ghost use Rattle.ot_repo.specs.Reading.{edges_left, AreListed, mark_in, next_at};
 
@@ -87,10 +87,10 @@ fn next_package<'a>(
     path: &str,
     requirement: Requirement<'a>,
 ) -> Result<Option<&'a [u8]>, RepoFault>
-    ensures next { Gives (option_map (λ full. full.now)) result
+    ensures next { IsAsStated (option_map (λ full. full.now)) result
         (next_at (mark_in marks.now) (edge_at path.now requirement.entry)) }
     ensures own { IfOk result (λ next. IfSome next (λ full. requirement.entry.full ≡ Some full)) }
-    ensures inside { IfErr result IsInside }
+    ensures inside { IfErr result IsOfContent }
 {
     let line = requirement.line;
     let Some(full) = requirement.full else {

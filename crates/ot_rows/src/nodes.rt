@@ -1,6 +1,6 @@
 //! Types and terms, worked by hand.
+use ot_log_nodes::{Change, Done, NameId, Nodes, TermId, TypeId, Typings, VariableNode};
 use ot_logic::{Memory, Name};
-use ot_nodes::{Change, Done, NameId, Nodes, TermId, TypeId, Typings, VariableNode};
 use std::alloc::Global;
 use std::process::Abort;
 use std::test::Fail;

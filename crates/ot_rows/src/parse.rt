@@ -4,6 +4,7 @@ use ot_parse::{
     Notation, PlainFault, ReadRefusal, Readable, TextFault, WordKind, plain_text, read_sequent,
     read_term,
 };
+use ot_read::sequents_text;
 use std::alloc::{AllocError, Global};
 use std::process::Abort;
 use std::test::Fail;
@@ -72,6 +73,30 @@ fn sequent(alloc: Global) -> Result<Readable, AllocError> {
 fn texts(rt: HostRuntime) -> Result<(), Fail> {
     let read = sequent(rt.alloc())?;
     check_texts(&rt, rt.alloc(), &read)
+}
+
+/// The texts of two sequents take 2 * 56 bytes, and no fewer.
+#[test]
+fn lines_of_texts(rt: HostRuntime) -> Result<(), Fail> {
+    let mut read = Vec::new(rt.alloc());
+    read.push(sequent(rt.alloc())?)?;
+    read.push(sequent(rt.alloc())?)?;
+    check_lines_of_texts(&rt, rt.alloc(), &read)
+}
+
+/// Two lines of that text.
+const PRINTED_TWICE: &[u8] =
+    b"\"p\":\"bool\" |- ((\\\"bool\". #0) (\"p\":\"bool\" = \"p\":\"bool\"))\n\
+      \"p\":\"bool\" |- ((\\\"bool\". #0) (\"p\":\"bool\" = \"p\":\"bool\"))\n";
+
+fn check_lines_of_texts(rt: &impl Abort, alloc: Global, read: &[Readable]) -> Result<(), Fail> {
+    let text = sequents_text(alloc, read, 112)?;
+    assert!(rt; text.as_slice() == PRINTED_TWICE);
+    for max in [0, 55, 56, 111] {
+        let short = sequents_text(alloc, read, max);
+        assert!(rt; matches!(short, Err(PlainFault::TooLarge)), "{max} bytes");
+    }
+    Ok(())
 }
 
 fn check_texts(rt: &impl Abort, alloc: Global, read: &Readable) -> Result<(), Fail> {
@@ -201,6 +226,18 @@ const LINES: &[(&[u8], u64, TextFault)] = &[
         0,
         TextFault::Syntax,
     ),
+    // An operator of nine arguments, nine functions inside one another, and a function of nine arguments.
+    (
+        b"|- ((f : (t 'a 'b 'c 'd 'e 'f 'g 'h 'i)) = (f : (t 'a 'b 'c 'd 'e 'f 'g 'h 'i)))",
+        0,
+        TextFault::Syntax,
+    ),
+    (
+        b"|- ((f : (bool -> (bool -> (bool -> (bool -> (bool -> (bool -> (bool -> (bool -> (bool -> bool)))))))))) \
+          (a : bool) (a : bool) (a : bool) (a : bool) (a : bool) (a : bool) (a : bool) (a : bool) (a : bool))",
+        0,
+        TextFault::Syntax,
+    ),
 ];
 
 #[test]
@@ -225,7 +262,7 @@ fn answer_of(read: Result<Readable, ReadRefusal>) -> (u64, TextFault) {
     match read {
         Ok(_) => (0, TextFault::Syntax),
         Err(ReadRefusal::At { column, fault }) => (column, fault),
-        Err(ReadRefusal::Memory) => (1000, TextFault::Syntax),
+        Err(ReadRefusal::Memory(_)) => (1000, TextFault::Syntax),
     }
 }
 
@@ -278,7 +315,7 @@ fn check_deep(rt: &impl Abort, alloc: Global, notation: &Notation) -> Result<(),
         let answer = match read_term(alloc, notation, &line) {
             Ok(_) => (0, TextFault::TooDeep),
             Err(ReadRefusal::At { column, fault }) => (column, fault),
-            Err(ReadRefusal::Memory) => (1000, TextFault::Syntax),
+            Err(ReadRefusal::Memory(_)) => (1000, TextFault::Syntax),
         };
         assert!(rt; answer.0 == column);
         assert!(rt; answer.1 == TextFault::TooDeep);

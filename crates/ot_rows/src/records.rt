@@ -1,5 +1,5 @@
 //! The words of the log's records, as the format lists them.
-use ot_records::{RecordWord, soundness_law};
+use ot_log_format::{RecordWord, soundness_law};
 use std::test::Fail;
 
 const LISTED: &[(&[u8], RecordWord)] = &[

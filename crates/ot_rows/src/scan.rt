@@ -249,6 +249,40 @@ fn goes_on_after_a_read_fault(rt: HostRuntime) -> Result<(), Fail> {
     Ok(())
 }
 
+/// The number of the last line before a read fault, if there is one.
+fn line_before_fault(source: &mut MemSource) -> Option<u64> {
+    let mut lines = Lines::new(100);
+    let mut last = 0;
+    for _ in 0..20 {
+        match lines.next(source) {
+            Ok(Some(line)) => last = line.number,
+            Ok(None) => return None,
+            Err(_) => return Some(last),
+        }
+    }
+    None
+}
+
+/// Two lines of ten bytes by one byte a call; the eleventh call finds their end.
+#[test]
+fn fails_at_each_call(rt: HostRuntime) -> Result<(), Fail> {
+    for call in 1..13 {
+        let wanted = if call < 3 {
+            Some(0)
+        } else if call < 11 {
+            Some(1)
+        } else if call < 12 {
+            Some(2)
+        } else {
+            None
+        };
+        let bytes = Vec::from_slice(rt.alloc(), b"6\nversion\n")?;
+        let mut source = MemSource::new(bytes, 1, Vec::from_slice(rt.alloc(), &[call])?);
+        assert!(rt; line_before_fault(&mut source) == wanted, "call {call}");
+    }
+    Ok(())
+}
+
 #[test]
 fn words(rt: HostRuntime) {
     let rows: [(&[u8], Result<Word<'_>, WordFault>); 27] = [

@@ -81,20 +81,88 @@ const ROWS: &[(&[u8], &[u8], Option<(u64, LogFault)>)] = &[
     ),
 ];
 
+/// Why a log is refused where it may have so many bytes, if it is.
+fn refusal(alloc: Global, text: Vec<u8>, max: u32) -> Option<(u64, LogFault)> {
+    let mut source = MemSource::new(text, 7, Vec::new(alloc));
+    match verify(alloc, &mut source, u64::from(max)) {
+        Ok(_) => None,
+        Err(VerifyFault::At { line, fault }) => Some((line, fault)),
+        Err(_) => Some((0, LogFault::LineTooLong)),
+    }
+}
+
 #[test]
 fn logs(rt: HostRuntime) -> Result<(), Fail> {
     for &(front, back, wanted) in ROWS {
         let mut text = Vec::from_slice(rt.alloc(), front)?;
         text.extend_from_slice(back)?;
-        let mut source = MemSource::new(text, 7, Vec::new(rt.alloc()));
-        let answer = match verify(rt.alloc(), &mut source, 4096) {
-            Ok(_) => None,
-            Err(VerifyFault::At { line, fault }) => Some((line, fault)),
-            Err(_) => Some((0, LogFault::LineTooLong)),
-        };
-        assert!(rt; answer == wanted);
+        assert!(rt; refusal(rt.alloc(), text, 4096) == wanted);
     }
     Ok(())
+}
+
+/// How many bytes the first log may have, of 42, and what is answered: at the line of the first byte that is too many.
+const LIMITS: &[(u32, Option<(u64, LogFault)>)] = &[
+    (42, None),
+    (41, Some((10, LogFault::LogTooLong))),
+    (10, Some((3, LogFault::LogTooLong))),
+    (0, Some((1, LogFault::LogTooLong))),
+];
+
+/// How many abstractions stand over the variable of the first log, each over the one before, and what is answered: at
+/// the record of the one that is nested deeper than 4,128.
+const NESTED: &[(u64, Option<(u64, LogFault)>)] = &[
+    (4127, None),
+    (4128, Some((12392, LogFault::LogNesting))),
+    (4129, Some((12392, LogFault::LogNesting))),
+];
+
+/// How many letters a name has that stands in quotes on the seventh line, and what is answered.
+const LONG: &[(usize, Option<(u64, LogFault)>)] = &[
+    (65533, None),
+    (65534, Some((7, LogFault::LineTooLong))),
+];
+
+#[test]
+fn limits(rt: HostRuntime) -> Result<(), Fail> {
+    for &(max, wanted) in LIMITS {
+        let text = Vec::from_slice(rt.alloc(), ASSUMED)?;
+        assert!(rt; refusal(rt.alloc(), text, max) == wanted, "{max} bytes");
+    }
+    for &(count, wanted) in NESTED {
+        let text = nested(rt.alloc(), count)?;
+        assert!(rt;
+            refusal(rt.alloc(), text, 1_000_000) == wanted,
+            "{count} abstractions"
+        );
+    }
+    for &(letters, wanted) in LONG {
+        let text = named(rt.alloc(), letters)?;
+        assert!(rt;
+            refusal(rt.alloc(), text, 1_000_000) == wanted,
+            "{letters} letters"
+        );
+    }
+    Ok(())
+}
+
+/// The first log, and so many abstractions.
+fn nested(alloc: Global, count: u64) -> Result<Vec<u8>, Fail> {
+    let mut text = Vec::from_slice(alloc, ASSUMED)?;
+    for number in 0..count {
+        let record = format!(in alloc; "lam\n0\n{number}\n")?;
+        text.extend_from_slice(record.as_bytes())?;
+    }
+    Ok(text)
+}
+
+/// A variable whose name has so many letters.
+fn named(alloc: Global, letters: usize) -> Result<Vec<u8>, Fail> {
+    let letters = vec![in alloc; b'p'; letters]?;
+    let mut text = Vec::from_slice(alloc, b"otlog\n1\ntyop\n\"bool\"\n0\nfree\n\"")?;
+    text.extend_from_slice(&letters)?;
+    text.extend_from_slice(b"\"\n0\n")?;
+    Ok(text)
 }
 
 /// What stands behind the first log, and the summary of both.
@@ -167,6 +235,59 @@ fn summaries(rt: HostRuntime) -> Result<(), Fail> {
         check_summary(&rt, rt.alloc(), &verified, wanted)?;
     }
     Ok(())
+}
+
+/// The record of term 1, which is then doubled 200 times under the function f, and what stands behind term 401: a
+/// definition, beta, a substitution and a closing of what is doubled.
+const DOUBLED: &[(&[u8], &[u8])] = &[
+    (b"con\n\"k\"\n0\n", b"constant\n\"c\"\n401\nresult\n0\n"),
+    (
+        b"bound\n0\n",
+        b"lam\n0\n401\ncon\n\"k\"\n0\napp\n402\n403\nbetaConv\n404\nresult\n0\n",
+    ),
+    (
+        b"free\n\"x\"\n0\n",
+        b"refl\n401\ncon\n\"k\"\n0\nsubst\n0\n0\n1\n\"x\"\n0\n402\nresult\n1\n",
+    ),
+    (
+        b"free\n\"x\"\n0\n",
+        b"refl\n401\nabsThm\n\"x\"\n0\n0\nresult\n1\n",
+    ),
+];
+
+/// Each is accepted, by work on the shared parts alone; its summary is too large, which is seen at the limit.
+#[test]
+fn doubled(rt: HostRuntime) -> Result<(), Fail> {
+    for &(first, last) in DOUBLED {
+        let text = doubled_log(rt.alloc(), first, last)?;
+        let mut source = MemSource::new(text, 4096, Vec::new(rt.alloc()));
+        let Ok(verified) = verify(rt.alloc(), &mut source, 1_000_000) else {
+            return Err(Fail::new("refused"));
+        };
+        check_large(&rt, rt.alloc(), &verified);
+    }
+    Ok(())
+}
+
+fn doubled_log(alloc: Global, first: &[u8], last: &[u8]) -> Result<Vec<u8>, Fail> {
+    let types = b"otlog\n1\ntyop\n\"bool\"\n0\ntyop\n\"->\"\n2\n0\n0\ntyop\n\"->\"\n2\n0\n1\n";
+    let mut text = Vec::from_slice(alloc, types)?;
+    text.extend_from_slice(b"con\n\"f\"\n2\n")?;
+    text.extend_from_slice(first)?;
+    for round in 0..200 {
+        let part: u64 = 2 * round + 1;
+        let half = part + 1;
+        let records = format!(in alloc; "app\n0\n{part}\napp\n{half}\n{part}\n")?;
+        text.extend_from_slice(records.as_bytes())?;
+    }
+    text.extend_from_slice(last)?;
+    Ok(text)
+}
+
+fn check_large(rt: &impl Abort, alloc: Global, verified: &Verified) {
+    let mut out = Vec::new(alloc);
+    let answer = verified.text(alloc, 65536, &mut out);
+    assert!(rt; answer == Err(VerifiedText::TooLarge));
 }
 
 /// With a byte less there is no summary.

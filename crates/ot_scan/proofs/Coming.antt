@@ -10,7 +10,7 @@ use Rattle.ot_logic.specs.Names.{Name}
 use Rattle.ot_scan.specs.Lines.{Scan, Broken, Next, limit_fault, with_piece, lines_after, lines_to_come}
 use Rattle.ot_io.specs.Reading.{MayFollow}
 use Rattle.ot_io.proofs.Reading.{Reads-then, Reads-none}
-use Rattle.ot_scan.specs.Reading.{Fills, IsFirst, KeepsLines, AreToCome, Finds, ChecksLimits, taken}
+use Rattle.ot_scan.specs.Reading.{Fills, IsFirstPiece, KeepsLines, AreToCome, FindsNextLine, ChecksLimits, behind_line}
 use Rattle.ot_scan.specs.declared.fault.ScanFault.{ScanFault}
 use Rattle.ot_scan.specs.declared.fault.ScanFault.TheVariants as code
 use Rattle.ot_scan.proofs.Limits.{limit-front, limit-found}
@@ -39,7 +39,7 @@ keeps-fills old new left left' r = record {
 
 -- the first piece, where it keeps the limits
 first-within : (max before len : ℕ) (held rest : List ℕ) (ended : Bool) → MayFollow ended rest
-    → IsFirst len held ended → 0 < len → limit_fault max before (take len held) ≡ None → pieces (held ++ rest) ≡ take len held
+    → IsFirstPiece len held ended → 0 < len → limit_fault max before (take len held) ≡ None → pieces (held ++ rest) ≡ take len held
     ∷ pieces (drop len held ++ rest)
 first-within max before len held rest ended may first some within = elim first.cut [
   | inl h ↦ first-ends len held rest h
@@ -69,7 +69,7 @@ breaks-onto max before held rest fault long none e (p ∷ ps) cut =
     record { piece = held ++ p; rest = ps; cut = cut; fault = limit-front max before held p long none ∙ e }
 
 first-breaks : (max before len : ℕ) (held rest : List ℕ) (ended : Bool) (fault : Fault Name) → MayFollow ended rest
-    → IsFirst len held ended → 0 < len
+    → IsFirstPiece len held ended → 0 < len
     → limit_fault max before (take len held) ≡ Some fault → Breaks max before (held ++ rest) fault
 first-breaks max before len held rest ended fault may first some e = elim first.cut [
   | inl h ↦ record {
@@ -96,10 +96,10 @@ first-breaks max before len held rest ended fault may first some e = elim first.
 
 -- ---- the lines to come, by the first piece
 
-to_come-first : (scan : Scan) (len : ℕ) → IsFirst len scan.held scan.ended → 0 < len
+to_come-first : (scan : Scan) (len : ℕ) → IsFirstPiece len scan.held scan.ended → 0 < len
     → limit_fault scan.max scan.before (take len scan.held) ≡ None
-    → AreToCome scan (λ rest. cond (is_skipped (text_of (take len scan.held))) (lines_to_come (taken len scan) rest)
-    (Next (scan.number + 1) (text_of (take len scan.held)) (lines_to_come (taken len scan) rest)))
+    → AreToCome scan (λ rest. cond (is_skipped (text_of (take len scan.held))) (lines_to_come (behind_line len scan) rest)
+    (Next (scan.number + 1) (text_of (take len scan.held)) (lines_to_come (behind_line len scan) rest)))
 to_come-first scan len first some within =
     λ rest may.
     ap (lines_after scan.max scan.before scan.number)
@@ -112,27 +112,27 @@ to_come-first scan len first some within =
     (length-take-le len scan.held first.within)
 
 -- a line that holds no command
-pub keeps-skipped : (scan : Scan) (len : ℕ) (left : Option (List ℕ)) → IsFirst len scan.held scan.ended → 0 < len
+pub keeps-skipped : (scan : Scan) (len : ℕ) (left : Option (List ℕ)) → IsFirstPiece len scan.held scan.ended → 0 < len
     → limit_fault scan.max scan.before (take len scan.held) ≡ None → is_skipped (text_of (take len scan.held)) ≡ true
-    → KeepsLines scan (taken len scan) left left
+    → KeepsLines scan (behind_line len scan) left left
 keeps-skipped scan len left first some within skipped = Reads-none scan.ended left _ (λ rest may.
     sym (to_come-first scan len first some within rest may
-    ∙ ap (λ b. cond b (lines_to_come (taken len scan) rest)
-    (Next (scan.number + 1) (text_of (take len scan.held)) (lines_to_come (taken len scan) rest))) skipped))
+    ∙ ap (λ b. cond b (lines_to_come (behind_line len scan) rest)
+    (Next (scan.number + 1) (text_of (take len scan.held)) (lines_to_come (behind_line len scan) rest))) skipped))
 
 -- a line that holds one
-pub next-found : (scan : Scan) (len : ℕ) → IsFirst len scan.held scan.ended → 0 < len
+pub next-found : (scan : Scan) (len : ℕ) → IsFirstPiece len scan.held scan.ended → 0 < len
     → limit_fault scan.max scan.before (take len scan.held) ≡ None → is_skipped (text_of (take len scan.held)) ≡ false
     → AreToCome scan (λ rest. Next (scan.number + 1) (text_of (take len scan.held))
-    (lines_to_come (taken len scan) rest))
+    (lines_to_come (behind_line len scan) rest))
 next-found scan len first some within holds =
     λ rest may.
     to_come-first scan len first some within rest may
-    ∙ ap (λ b. cond b (lines_to_come (taken len scan) rest)
-    (Next (scan.number + 1) (text_of (take len scan.held)) (lines_to_come (taken len scan) rest))) holds
+    ∙ ap (λ b. cond b (lines_to_come (behind_line len scan) rest)
+    (Next (scan.number + 1) (text_of (take len scan.held)) (lines_to_come (behind_line len scan) rest))) holds
 
 -- a line past a limit
-pub broken-found : (scan : Scan) (len : ℕ) (fault : Fault Name) → IsFirst len scan.held scan.ended → 0 < len
+pub broken-found : (scan : Scan) (len : ℕ) (fault : Fault Name) → IsFirstPiece len scan.held scan.ended → 0 < len
     → limit_fault scan.max scan.before (take len scan.held) ≡ Some fault
     → AreToCome scan (λ rest. Broken (scan.number + 1) fault)
 broken-found scan len fault first some e =
@@ -142,9 +142,9 @@ broken-found scan len fault first some e =
     ∙ ap (λ f. with_piece (scan.number + 1) (text_of b.piece) f
     (lines_after scan.max (scan.before + length b.piece) (scan.number + 1) b.rest)) b.fault
 
-pub stop-found : (scan : Scan) (len : ℕ) (fault : ScanFault) → IsFirst len scan.held scan.ended → 0 < len
+pub stop-found : (scan : Scan) (len : ℕ) (fault : ScanFault) → IsFirstPiece len scan.held scan.ended → 0 < len
     → ChecksLimits (Err fault) (scan.number + 1) (limit_fault scan.max scan.before (take len scan.held))
-    → Finds (Err fault) scan
+    → FindsNextLine (Err fault) scan
 stop-found scan len (code.LineTooLong number) first some h =
     subst (λ n. AreToCome scan (λ rest. Broken n LineTooLong)) (sym h.0)
     (broken-found scan len LineTooLong first some h.1)

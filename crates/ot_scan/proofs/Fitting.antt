@@ -8,7 +8,7 @@ use Rattle.ot_logic.specs.Lists.{IsMember}
 use Rattle.ot_lines.specs.Pieces.{without_last, is_blank, trim_front, text_of}
 use Rattle.ot_lines.proofs.Trimming.{length-without_last_le}
 use Rattle.ot_scan.specs.Lines.{limit_fault, IsLong, IsLineText}
-use Rattle.ot_scan.specs.Reading.{IsFirst}
+use Rattle.ot_scan.specs.Reading.{IsFirstPiece}
 use Rattle.ot_scan.proofs.Limits.{names_limit}
 
 -- ---- trimming takes bytes away, and adds none
@@ -85,7 +85,7 @@ none-before (b ∷ c ∷ cs) h m = elim m [
 ]
 
 -- none of its bytes but the last is a newline
-open-first : (len : ℕ) (held : List ℕ) (left : Bool) → IsFirst len held left → (k : ℕ) → suc k < len
+open-first : (len : ℕ) (held : List ℕ) (left : Bool) → IsFirstPiece len held left → (k : ℕ) → suc k < len
     → get_or held k 0 ≢ 10
 open-first len held left first k l = elim first.cut [
   | inl h ↦ h.open_before k (omega (arith, l))
@@ -103,7 +103,7 @@ short-piece piece n =
     elim (leb_tells 65536 (length (without_last 10 piece))) [ inl l ↦ absurd (n l.1) | inr l ↦ omega (arith, l.1) ]
 
 -- so a line can hold its text
-pub line-fits : (max before len : ℕ) (held : List ℕ) (left : Bool) → IsFirst len held left
+pub line-fits : (max before len : ℕ) (held : List ℕ) (left : Bool) → IsFirstPiece len held left
     → limit_fault max before (take len held) ≡ None → IsLineText (text_of (take len held))
 line-fits max before len held left first limits =
     let piece = take len held in

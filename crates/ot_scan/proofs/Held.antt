@@ -6,7 +6,7 @@ use Rattle.std.proofs.Math.Seq.{take-append-add}
 use Rattle.std.proofs.lemmas.List.{take-take, take-append-le, drop-take, drop-drop, length-take, length-take-le}
 use Rattle.std.proofs.lemmas.List.Edits.{take-paste}
 use Rattle.ot_scan.specs.Lines.{Scan}
-use Rattle.ot_scan.specs.Reading.{IsScanner, taken}
+use Rattle.ot_scan.specs.Reading.{IsScanner, behind_line}
 use borrow.Rule.Slice.PartMut.{put_mid, post_of}
 
 -- the part from start to end
@@ -50,7 +50,7 @@ pub part-taken : (scan : Scan) (buffer : List ℕ) (max start end limit number l
       before = max - (limit - (start + len));
       number = number + 1;
       ended = ended;
-    } ≡ taken len scan)
+    } ≡ behind_line len scan)
 part-taken scan buffer max start end limit number len ended is fields le few =
     let fits : start + len ≤ end =
     omega (arith, fields.ordered, le, length-part buffer start end, ap (λ (s : Scan). length s.held) is) in
@@ -61,7 +61,7 @@ part-taken scan buffer max start end limit number len ended is fields le few =
       part-front buffer start end len fits ∙ ap (λ (s : Scan). take len s.held) is,
       ap (λ b. record { max = max; held = part (start + len) end buffer; before = b; number = number + 1; ended = ended }) moved
           ∙ ap (λ h. record { max = max; held = h; before = max - (limit - start) + len; number = number + 1; ended = ended })
-          (part-rest buffer start end len fits) ∙ ap (taken len) is,
+          (part-rest buffer start end len fits) ∙ ap (behind_line len) is,
     )
 
 -- ---- moved to the front

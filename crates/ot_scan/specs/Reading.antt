@@ -39,15 +39,15 @@ pub record IsUnended (len : ℕ) (held : List ℕ) (ended : Bool) : Type 0 where
   pub stop : (65536 ≤ len) ⊎ (ended ≡ true)
 
 -- the first piece, or its first bytes where it has more than are held, or nothing at the end
-pub record IsFirst (len : ℕ) (held : List ℕ) (ended : Bool) : Type 0 where
+pub record IsFirstPiece (len : ℕ) (held : List ℕ) (ended : Bool) : Type 0 where
   pub within : len ≤ length held
   pub cut : EndsAt len held ⊎ IsUnended len held ended
 
 -- ---- lines that hold no command
 
 -- after a line of this length
-abbrev pub taken : ℕ → Scan → Scan
-taken len scan =
+abbrev pub behind_line : ℕ → Scan → Scan
+behind_line len scan =
     record scan { held = drop len scan.held; before = scan.before + len; number = scan.number + 1 }
 
 -- the lines to come are the same
@@ -71,7 +71,7 @@ pub record IsCommandLine (len : ℕ) (scan : Scan) : Type 0 where
   pub holds : is_skipped (text_of (take len scan.held)) ≡ false
   pub fits : IsLineText (text_of (take len scan.held))
   pub next : AreToCome scan (λ rest. Next (scan.number + 1) (text_of (take len scan.held))
-      (lines_to_come (taken len scan) rest))
+      (lines_to_come (behind_line len scan) rest))
 
 -- the length of the next line that holds a command, or 0 at the end
 pub record FindsLine (len : ℕ) (scan : Scan) : Type 0 where
@@ -79,11 +79,11 @@ pub record FindsLine (len : ℕ) (scan : Scan) : Type 0 where
   pub end : len ≡ 0 → (scan.held ≡ []) × (scan.ended ≡ true)
 
 -- the next line that holds a command was found, or what stops the lines
-abbrev pub Finds : Result ℕ ScanFault → Scan → Type 0
-Finds (Ok len) scan = FindsLine len scan
-Finds (Err (code.LineTooLong number)) scan = AreToCome scan (λ rest. Broken number LineTooLong)
-Finds (Err (code.ArticleTooLong number)) scan = AreToCome scan (λ rest. Broken number ArticleTooLong)
-Finds (Err code.ReadFault) scan = Unit {0}
+abbrev pub FindsNextLine : Result ℕ ScanFault → Scan → Type 0
+FindsNextLine (Ok len) scan = FindsLine len scan
+FindsNextLine (Err (code.LineTooLong number)) scan = AreToCome scan (λ rest. Broken number LineTooLong)
+FindsNextLine (Err (code.ArticleTooLong number)) scan = AreToCome scan (λ rest. Broken number ArticleTooLong)
+FindsNextLine (Err code.ReadFault) scan = Unit {0}
 
 -- ---- limits
 

@@ -76,9 +76,9 @@ word_fault fault.BadNumber = BadNumber
 word_fault fault.NumberRange = NumberRange
 
 -- what the code answers
-abbrev pub answer : Result Word WordFault → Result WordValue (Fault Name)
-answer (Ok w) = Ok (word_value w)
-answer (Err e) = Err (word_fault e)
+abbrev pub word_answer : Result Word WordFault → Result WordValue (Fault Name)
+word_answer (Ok w) = Ok (word_value w)
+word_answer (Err e) = Err (word_fault e)
 
 -- a u64 that stands for a number, the last one for each that is greater
 abbrev pub IsCapped : ℕ → ℕ → Type 0

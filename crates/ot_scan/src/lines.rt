@@ -4,7 +4,7 @@ ghost use Rattle.std.specs.Io.BufRead.{Rests};
 ghost use Rattle.ot_io.specs.Causes.{HasCause};
 ghost use Rattle.ot_io.specs.Keeping.{KeepsSource};
 ghost use Rattle.ot_scan.specs.Lines.{TakesFrom, Counts, HasReadCause, IsLineText, limit_fault};
-ghost use Rattle.ot_scan.specs.Reading.{Fills, IsFirst, KeepsLines, GoesOn, Finds, ChecksLimits, taken};
+ghost use Rattle.ot_scan.specs.Reading.{Fills, IsFirstPiece, KeepsLines, GoesOn, FindsNextLine, ChecksLimits, behind_line};
 ghost use Rattle.ot_scan.specs.contracts.lines.Lines.{the_row};
 
 use crate::fault::ScanFault;
@@ -112,7 +112,7 @@ impl Lines {
     fn pass_skipped<S: Source>(&mut self, source: &mut S) -> Result<usize, ScanFault>
         ensures same_lines { KeepsLines self.old self.new (S.left source.old) (S.left source.new) }
         ensures goes_on { GoesOn self.old self.new }
-        ensures found { Finds result self.new }
+        ensures found { FindsNextLine result self.new }
 
         ensures cause { IfErr result (λ fault.
             HasReadCause fault (S.faults source.old) (S.faults source.new)) }
@@ -152,7 +152,7 @@ impl Lines {
     #[inline(always)]
     fn first_piece<S: Source>(&mut self, source: &mut S) -> Result<usize, Failed>
         ensures read { Fills self.old self.new (S.left source.old) (S.left source.new) }
-        ensures first { IfOk result (λ len. IsFirst len self.new.held self.new.ended) }
+        ensures first { IfOk result (λ len. IsFirstPiece len self.new.held self.new.ended) }
 
         ensures cause { HasCause (S.faults source.old) (S.faults source.new) result }
         ensures kept { KeepsSource S.folder S.faults S.misses S.at source.old source.new }
@@ -167,7 +167,7 @@ impl Lines {
     #[inline(never)]
     fn read_piece<S: Source>(&mut self, source: &mut S) -> Result<usize, Failed>
         ensures read { Fills self.old self.new (S.left source.old) (S.left source.new) }
-        ensures first { IfOk result (λ len. IsFirst len self.new.held self.new.ended) }
+        ensures first { IfOk result (λ len. IsFirstPiece len self.new.held self.new.ended) }
 
         ensures cause { HasCause (S.faults source.old) (S.faults source.new) result }
         ensures kept { KeepsSource S.folder S.faults S.misses S.at source.old source.new }
@@ -223,7 +223,7 @@ impl Lines {
         requires within { len ≤ length self.old.held }
         requires limited { self.old.before + len ≤ self.old.max }
         ensures piece { result.now ≡ take len self.old.held }
-        ensures* taken { sem 𝓛 (Rests the_row self.entry (λ new. new ≡ taken len self.old)) }
+        ensures* taken { sem 𝓛 (Rests the_row self.entry (λ new. new ≡ behind_line len self.old)) }
     {
         let start = self.start;
         self.start += len;

@@ -1,5 +1,5 @@
 ghost use Rattle.std.specs.Prelude.{◌≡◌, ◌<◌, ◌≤◌, ℕ, pos, neg_ℤ, length, MatchOption, IsSomeAnd, Some, None};
-ghost use Rattle.ot_scan.specs.Words.{word, answer, number, number_word, positive, IsCapped, ReadsDigits};
+ghost use Rattle.ot_scan.specs.Words.{word, word_answer, number, number_word, positive, IsCapped, ReadsDigits};
 
 use ot_logic::{Cmd, Name};
 
@@ -32,7 +32,7 @@ pub enum WordFault {
 #[inline(always)]
 pub fn command(text: &[u8]) -> Result<Word<'_>, WordFault>
     requires { 0 < length text.now }
-    ensures { answer result ≡ word text.now }
+    ensures { word_answer result ≡ word text.now }
 {
     match text {
         // Most words are commands, and each begins with a letter.
@@ -55,7 +55,7 @@ pub fn command(text: &[u8]) -> Result<Word<'_>, WordFault>
 /// The number that a text writes.
 #[inline(always)]
 fn number(text: &[u8]) -> Result<Word<'_>, WordFault>
-    ensures { answer result ≡ number_word (number text.now) }
+    ensures { word_answer result ≡ number_word (number text.now) }
 {
     match text {
         [b'-', digits @ ..] => match positive(digits) {
@@ -72,7 +72,7 @@ fn number(text: &[u8]) -> Result<Word<'_>, WordFault>
 
 /// The number of this size, which an `i64` may not hold.
 fn unsigned(magnitude: u64) -> Result<Word<'static>, WordFault>
-    ensures { (n : ℕ) → IsCapped n magnitude → answer result ≡ number_word (Some (pos n)) }
+    ensures { (n : ℕ) → IsCapped n magnitude → word_answer result ≡ number_word (Some (pos n)) }
 {
     if magnitude <= i64::MAX as u64 {
         Ok(Word::Number(magnitude as i64))
@@ -83,7 +83,7 @@ fn unsigned(magnitude: u64) -> Result<Word<'static>, WordFault>
 
 /// The negative number of this size.
 fn negative(magnitude: u64) -> Result<Word<'static>, WordFault>
-    ensures { (n : ℕ) → IsCapped n magnitude → answer result ≡ number_word (Some (neg_ℤ (pos n))) }
+    ensures { (n : ℕ) → IsCapped n magnitude → word_answer result ≡ number_word (Some (neg_ℤ (pos n))) }
 {
     if magnitude < 1 << 63 {
         Ok(Word::Number(-(magnitude as i64)))

@@ -47,7 +47,7 @@ fn coincides<N: Nodes<L>, L>(
     match terms.type_inst(subst.types(), x.ty) {
         Ok(ty) => Ok(ty == w.ty),
         Err(TableFault::Nesting) => Ok(false),
-        Err(TableFault::Memory) => Err(Memory),
+        Err(TableFault::Memory(memory)) => Err(memory),
     }
 }
 

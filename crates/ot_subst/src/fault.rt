@@ -1,4 +1,6 @@
 //! Why a substitution is not put in.
+ghost use Rattle.ot_logic.specs.RanOut.{ran_out};
+
 use ot_logic::Memory;
 use ot_type::TableFault;
 
@@ -10,17 +12,17 @@ pub enum SubstFault {
     /// The term is no abstraction applied to a term.
     NotRedex,
     /// Memory ran out.
-    Memory,
+    Memory(Memory),
 }
 
 impl From<Memory> for SubstFault {
     ghost use Rattle.std.specs.Prelude.{◌≡◌};
     ghost use Rattle.ot_subst.specs.declared.fault.SubstFault.TheVariants.{Memory};
 
-    ghost from_gives = { λ _ r. r ≡ Memory };
+    ghost from_gives = { λ _ r. r ≡ Memory ran_out };
 
-    fn from(_refused: Memory) -> SubstFault {
-        SubstFault::Memory
+    fn from(memory: Memory) -> SubstFault {
+        SubstFault::Memory(memory)
     }
 }
 
@@ -33,7 +35,7 @@ impl From<TableFault> for SubstFault {
     fn from(refused: TableFault) -> SubstFault {
         match refused {
             TableFault::Nesting => SubstFault::Nesting,
-            TableFault::Memory => SubstFault::Memory,
+            TableFault::Memory(memory) => SubstFault::Memory(memory),
         }
     }
 }

@@ -68,9 +68,7 @@ impl Placed {
     {
         let index = id.index();
         let place = self.pairs.len();
-        if place > u32::MAX as usize {
-            return Err(Memory);
-        }
+        Memory::unless_full(place)?;
         reach(&mut self.places, index)?;
         self.pairs.push((id, image))?;
         self.places[index] = place as u32;
@@ -84,10 +82,8 @@ fn reach(places: &mut Vec<u32>, index: usize) -> Result<(), Memory>
     ensures extends { Extends places.old.items places.new.items }
 {
     if index >= places.len() {
-        let Some(len) = index.checked_add(1) else {
-            return Err(Memory);
-        };
-        places.resize(len, 0)?;
+        let len = Memory::next(index as u64)?;
+        places.resize(len as usize, 0)?;
     }
     Ok(())
 }

@@ -36,7 +36,7 @@ fn join<N: Nodes<L>, L>(terms: &mut N, f: TermId, x: TermId) -> Result<TermId, T
     match terms.app(f, x) {
         Ok(id) => Ok(id),
         Err(TermFault::Nesting) => Err(TableFault::Nesting),
-        Err(TermFault::Memory) => Err(TableFault::Memory),
+        Err(TermFault::Memory(memory)) => Err(TableFault::Memory(memory)),
         Err(TermFault::NotFunction | TermFault::ArgumentType) => unreachable!(),
     }
 }

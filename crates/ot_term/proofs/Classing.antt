@@ -1,21 +1,25 @@
--- The classes of terms: the numbers of their nameless forms.
+-- The classes of terms by number.
 use Rattle.std.proofs.Common.{◌≡◌, ℕ, zero, suc, ◌<◌, ◌↔◌, Bool, position, None, List, [], ◌∷◌, ◌++◌}
-use Rattle.std.proofs.Common.{length, slice_get, get_or, Some, refl, sym, ap, subst, ◌∙◌, arith}
-use Rattle.std.proofs.lemmas.Option.{none-some, same_Some, slice_get_within, get_or_from_slice_get}
+use Rattle.std.proofs.Common.{length, slice_get, get_or, Some, refl, sym, ap, subst, ◌∙◌}
+use Rattle.std.proofs.lemmas.Option.{none-some, same_Some}
 use Rattle.std.proofs.lemmas.List.{map-append}
-use Rattle.ot_logic.specs.Trees.{Ty, Tm, Bound, App, Abs, Named}
-use Rattle.ot_logic.specs.Hol.{close_at}
+use Rattle.ot_logic.specs.Trees.{Ty, Named}
 use Rattle.ot_logic.specs.NamedTerms.{nameless}
 use Rattle.ot_logic.specs.Naming.{numbers}
 use Rattle.ot_logic.specs.Table.{Extends, IsInjective}
-use Rattle.ot_logic.proofs.TableLemmas.{Extends-append, get_or-Extends, get_or-IsInjective}
+use Rattle.ot_logic.proofs.TableLemmas.{Extends-append}
+use Rattle.ot_laws.proofs.Tests.{tells_numbers}
 use Rattle.indexmap.specs.IndexMap.{IndexMap, keys, insert_entry}
 use Rattle.indexmap.proofs.CallerLemmas.{insert_entry-new}
 use Rattle.indexmap.proofs.MapLemmas.{Missing-position}
-use Rattle.ot_type.specs.TypeTable.{type_at}
-use Rattle.ot_class.specs.Class.{class_at, variable_by}
+use Rattle.ot_shape.specs.Shape.{class_of, app_class, abs_class}
+use Rattle.ot_shape.proofs.Classes.{class-alpha}
+use Rattle.ot_lists.specs.Variables.{variable_by}
+use Rattle.ot_class.specs.Class.{ClassTable, class_at, IsNumberOf, Grows as ClassesGrow, AreOnce}
 use Rattle.ot_class.specs.Spelled.{spelled, IsOver}
-use Rattle.ot_class.proofs.Spelling.{number, over-more, over-close, spelled-grown, spelled-one, spelled-close}
+use Rattle.ot_class.proofs.Growing.{number-of, class-of, number-grown, class-grown as class_stays, number-one}
+use Rattle.ot_class.proofs.Spelling.{number, over-more, spelled-grown, spelled-one}
+use Rattle.ot_class.proofs.Spelling.{over-app, over-abs, spelled-app, spelled-abs}
 use Rattle.ot_term.specs.Classing.{form_at, form_of}
 use Rattle.ot_term.specs.TermTable.{term_at, term_of, variable_of, AreBelow, classes_of, IsClassOf}
 use Rattle.ot_term.specs.declared.table.NodeInfo.{NodeInfo}
@@ -23,7 +27,7 @@ use Rattle.ot_term.specs.declared.term.TermNode.{TermNode}
 use Rattle.ot_term.specs.declared.term.TermNode.TheVariants.{Var, Const, App as AppNode, Abs as AbsNode}
 
 -- ---- what stays when a table grows
-pub class-types : (tys us : List (Ty ℕ)) → Extends tys us → (cs : List (Tm ℕ)) (t : Named ℕ) (c : ℕ)
+pub class-types : (tys us : List (Ty ℕ)) → Extends tys us → (cs : ClassTable) (t : Named ℕ) (c : ℕ)
     → IsClassOf tys cs t c → IsClassOf us cs t c
 class-types tys us e cs t c h = record {
   within = h.within;
@@ -31,14 +35,14 @@ class-types tys us e cs t c h = record {
   form = spelled-grown tys us e (class_at cs c) h.over ∙ h.form;
 }
 
-pub class-grown : (tys : List (Ty ℕ)) (cs ds : List (Tm ℕ)) → Extends cs ds → (t : Named ℕ) (c : ℕ)
+pub class-grown : (tys : List (Ty ℕ)) (cs ds : ClassTable) → ClassesGrow cs ds → (t : Named ℕ) (c : ℕ)
     → IsClassOf tys cs t c → IsClassOf tys ds t c
 class-grown tys cs ds e t c h =
-    let same = sym (get_or-Extends cs ds e c (Bound 0) h.within) in
+    let same = class_stays cs ds e c h.within in
     record {
-      within = omega (arith, h.within, e.longer);
-      over = subst (IsOver (length tys)) same h.over;
-      form = ap (spelled tys) (sym same) ∙ h.form;
+      within = number-grown cs ds e c h.within;
+      over = subst (IsOver (length tys)) (sym same) h.over;
+      form = ap (spelled tys) same ∙ h.form;
     }
 
 -- ---- the list of classes
@@ -67,51 +71,51 @@ classes-push same m n b absent new inserted =
     subst (Extends (classes_of m.entries)) (sym list) (Extends-append (classes_of m.entries) (b.class ∷ []))
 
 -- ---- two classes are one exactly where the nameless forms are
-pub are_alike : (tys : List (Ty ℕ)) (cs : List (Tm ℕ)) → IsInjective tys → IsInjective cs → (t u : Named ℕ) (c d : ℕ)
+pub are_alike : (tys : List (Ty ℕ)) (cs : ClassTable) → IsInjective tys → AreOnce cs → (t u : Named ℕ) (c d : ℕ)
     → IsClassOf tys cs t c → IsClassOf tys cs u d → (c ≡ d) ↔ (nameless numbers t ≡ nameless numbers u)
-are_alike tys cs types forms t u c d g h = (to, back)
+are_alike tys cs types once t u c d g h = (to, back)
   where
     to : c ≡ d → nameless numbers t ≡ nameless numbers u
-    to e = sym g.form ∙ ap (λ i. spelled tys (class_at cs i)) e ∙ h.form
+    to e = (class-alpha numbers tells_numbers t u).1
+        (sym g.form ∙ ap (λ i. spelled tys (class_at cs i)) e ∙ h.form)
 
     back : nameless numbers t ≡ nameless numbers u → c ≡ d
     back e =
-        let one : class_at cs c ≡ class_at cs d = spelled-one tys types (class_at cs c) (class_at cs d) g.over h.over
-        (g.form ∙ e ∙ sym h.form) in
-        get_or-IsInjective cs forms c d (Bound 0) g.within h.within one
+        let form = g.form ∙ (class-alpha numbers tells_numbers t u).0 e ∙ sym h.form in
+        let one = spelled-one tys types (class_at cs c) (class_at cs d) g.over h.over form in
+        number-one cs once c d g.within h.within one
 
 -- ---- the class of a new node
-module _ (tys : List (Ty ℕ)) (one : IsInjective tys) (cs : List (Tm ℕ)) (ks : List ℕ) (ts : List (Named ℕ))
+module _ (tys : List (Ty ℕ)) (one : IsInjective tys) (cs : ClassTable) (ks : List ℕ) (ts : List (Named ℕ))
     (classed : (i : ℕ) → i < length ts → IsClassOf tys cs (term_at ts i) (get_or ks i 0)) where
   form-over : (n : TermNode) → AreBelow (length tys) (length ts) n → IsOver (length tys) (form_of cs ks n)
-  form-over (Var v) h = number (length tys) v.ty h
-  form-over (Const n t) h = number (length tys) t h
-  form-over (AppNode f x) h = ((classed f h.0).over, (classed x h.1).over)
-  form-over (AbsNode v b) h = (
-    number (length tys) v.ty h.0,
-    over-close (length tys) 0 (variable_by v.name v.ty) (form_at cs ks b)
-        (classed b h.1).over,
-  )
+  form-over (Var v) h = record { shape = tt; frees = (number (length tys) v.ty h, tt) }
+  form-over (Const n t) h = record { shape = number (length tys) t h; frees = tt }
+  form-over (AppNode f x) h =
+      over-app tys one (form_at cs ks f) (form_at cs ks x) (classed f h.0).over (classed x h.1).over
+  form-over (AbsNode v b) h =
+      over-abs tys one (variable_by v.name v.ty) (number (length tys) v.ty h.0) (form_at cs ks b) (classed b h.1).over
 
   form-is : (n : TermNode) → AreBelow (length tys) (length ts) n → spelled tys (form_of cs ks n)
-      ≡ nameless numbers (term_of tys ts n)
+      ≡ class_of numbers (term_of tys ts n)
   form-is (Var v) h = refl
   form-is (Const n t) h = refl
   form-is (AppNode f x) h =
       let left = (classed f h.0).form in
       let right = (classed x h.1).form in
-      λ i. App (left i) (right i)
+      spelled-app tys one (form_at cs ks f) (form_at cs ks x) (classed f h.0).over (classed x h.1).over
+      ∙ (λ i. app_class numbers (left i) (right i))
   form-is (AbsNode v b) h =
-      let moved = spelled-close tys one 0 (variable_by v.name v.ty) (number (length tys) v.ty h.0) (form_at cs ks b)
-      (classed b h.1).over in
-      ap (Abs (type_at tys v.ty)) (moved ∙ ap (close_at numbers 0 (variable_of tys v)) (classed b h.1).form)
+      spelled-abs tys one (variable_by v.name v.ty) (number (length tys) v.ty h.0) (form_at cs ks b)
+      (classed b h.1).over
+      ∙ ap (abs_class numbers (variable_of tys v)) (classed b h.1).form
 
-  pub class_new : (ds : List (Tm ℕ)) (n : TermNode) → AreBelow (length tys) (length ts) n → (c : ℕ)
-      → slice_get ds c ≡ Some (form_of cs ks n) → IsClassOf tys ds (term_of tys ts n) c
+  pub class_new : (ds : ClassTable) (n : TermNode) → AreBelow (length tys) (length ts) n → (c : ℕ)
+      → IsNumberOf ds (form_of cs ks n) c → IsClassOf tys ds (term_of tys ts n) c
   class_new ds n h c p =
-      let is : class_at ds c ≡ form_of cs ks n = get_or_from_slice_get ds c _ (Bound 0) p in
+      let is = class-of ds (form_of cs ks n) c p in
       record {
-        within = slice_get_within ds c _ p;
+        within = number-of ds (form_of cs ks n) c p;
         over = subst (IsOver (length tys)) (sym is) (form-over n h);
         form = ap (spelled tys) is ∙ form-is n h;
       }

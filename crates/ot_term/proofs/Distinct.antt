@@ -10,7 +10,7 @@ use Rattle.ot_term.specs.declared.term.VarKey.{VarKey}
 use Rattle.ot_term.specs.contracts.term.SymbolKindPartialEq.TheImpl as kinds
 use Rattle.ot_term.specs.contracts.term.SymbolPartialEq.TheImpl as symbols
 use Rattle.ot_term.specs.contracts.term.VarKeyPartialEq.TheImpl as keys
-pub use Rattle.ot_class.proofs.Distinct.{distinct_members, distinct_once}
+pub use Rattle.ot_term.proofs.Once.{distinct_members, distinct_once}
 
 abbrev pub symbol_eq : Symbol → Symbol → Bool
 symbol_eq = symbols.ghosts.eq

@@ -7,43 +7,40 @@ use Rattle.std.proofs.Common.{◌≡◌, ◌↔◌, ℕ, ◌<◌, IfOk, Result, 
 use Rattle.std.proofs.Common.{[], ◌∷◌, length, map, refl, sym, ap, subst, ◌∙◌}
 use Rattle.std.proofs.lemmas.Bool.Decides.{Decides-like, Decides-or, Decides-eqb, same_from_decides}
 use Rattle.ot_logic.specs.Lists.{IsMember, AreDistinct}
-use Rattle.ot_logic.specs.Trees.{Ty, TyVar, Variable, Tm, Named}
+use Rattle.ot_logic.specs.Trees.{Ty, TyVar, Variable, Named}
 use Rattle.ot_logic.specs.Hol.{IsFree, is_free}
 use Rattle.ot_logic.specs.NamedTerms.{nameless}
 use Rattle.ot_logic.specs.Naming.{numbers}
 use Rattle.ot_logic.specs.Table.{IsInjective}
 use Rattle.ot_logic.proofs.TableLemmas.{get_or-IsInjective}
 use Rattle.ot_laws.proofs.Tests.{tells_numbers, is_free-is}
-use Rattle.ot_class.specs.Class.{class_at, variable_by}
+use Rattle.ot_lists.specs.Variables.{variable_by}
+use Rattle.ot_class.specs.Class.{ClassTable, class_at}
 use Rattle.ot_term.specs.Free.{key_at, AreTypesOf}
 use Rattle.ot_term.specs.TermTable.{variable_of, IsClassOf}
-use Rattle.ot_term.proofs.FreeLemmas.{free-over, spelled-free, free-spelled, distinct-map}
+use Rattle.ot_term.proofs.FreeLemmas.{class-below, class-to, class-from, distinct-map}
 use Rattle.ot_term.specs.declared.term.VarKey.{VarKey}
 use Rattle.ot_logic.proofs.Members.{IsMember-map, IsMember-map_back, All-at_member, All-from_members}
 
 -- ---- the types that stand beside a name
-pub types_of_class : (tys : List (Ty ℕ)) (cs : List (Tm ℕ)) (t : Named ℕ) (c name : ℕ) (ks : List ℕ)
-    → IsClassOf tys cs t c
-    → ((k : ℕ) → IsMember k ks ↔ IsFree numbers (variable_by name k) (class_at cs c)) → AreDistinct ks
-    → AreTypesOf tys name t ks
-types_of_class tys cs t c name ks class free once = record {
-  within = All-from_members (λ k. k < length tys) ks
-      (λ k m. free-over (length tys) (class_at cs c) class.over name k ((free k).0 m));
-  to = λ k m. subst (IsFree numbers (variable_of tys (key_at name k))) class.form
-      (spelled-free tys (class_at cs c) (variable_by name k) ((free k).0 m));
-  back = λ w p f.
-      let (k, g, e) =
-      free-spelled tys (length tys) (class_at cs c) class.over w (subst (IsFree numbers w) (sym class.form) f) in
-      (k, (free k).1 (subst (λ n. IsFree numbers (variable_by n k) (class_at cs c)) p g), e);
-  once = once;
-}
+module _ (tys : List (Ty ℕ)) (cs : ClassTable) (t : Named ℕ) (c : ℕ) (class : IsClassOf tys cs t c) (name : ℕ) where
+  types_of_class : (ks : List ℕ) → ((k : ℕ) → IsMember k ks ↔ IsMember (variable_by name k) (class_at cs c).frees)
+      → AreDistinct ks → AreTypesOf tys name t ks
+  types_of_class ks free once = record {
+    within = All-from_members (λ k. k < length tys) ks
+        (λ k m. class-below tys cs t c class name k ((free k).0 m));
+    to = λ k m. class-to tys cs t c class name k ((free k).0 m);
+    back = λ w p f.
+        let (k, g, e) = class-from tys cs t c class w f in
+        (k, (free k).1 (subst (λ n. IsMember (variable_by n k) (class_at cs c).frees) p g), e);
+    once = once;
+  }
 
-pub types_of_result : {E : Type 0} (r : Result (Vec ℕ) E) (tys : List (Ty ℕ)) (cs : List (Tm ℕ)) (t : Named ℕ)
-    (c name : ℕ) → IsClassOf tys cs t c
-    → IfOk r (λ ks. (k : ℕ) → IsMember k ks.items ↔ IsFree numbers (variable_by name k) (class_at cs c))
-    → IfOk r (λ ks. AreDistinct ks.items) → IfOk r (λ ks. AreTypesOf tys name t ks.items)
-types_of_result (Ok ks) tys cs t c name class free once = types_of_class tys cs t c name ks.items class free once
-types_of_result (Err e) tys cs t c name class free once = tt
+  pub types_of_result : {E : Type 0} (r : Result (Vec ℕ) E)
+      → IfOk r (λ ks. (k : ℕ) → IsMember k ks.items ↔ IsMember (variable_by name k) (class_at cs c).frees)
+      → IfOk r (λ ks. AreDistinct ks.items) → IfOk r (λ ks. AreTypesOf tys name t ks.items)
+  types_of_result (Ok ks) free once = types_of_class ks.items free once
+  types_of_result (Err e) free once = tt
 
 module _ (tys : List (Ty ℕ)) (name : ℕ) (t : Named ℕ) (ks : List ℕ) (h : AreTypesOf tys name t ks) where
   pub named-within : All (λ v. v.ty < length tys) (map (key_at name) ks)

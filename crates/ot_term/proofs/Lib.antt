@@ -1,4 +1,5 @@
 -- Lemmas on the table of terms.
+pub mod Empty
 pub mod Limit
 pub mod Classing
 pub mod TermTableLemmas
@@ -12,6 +13,7 @@ pub mod EqualityTests
 pub mod Walking
 pub mod Gathering
 pub mod GatherLemmas
+pub mod Once
 pub mod Distinct
 pub mod FreeLemmas
 pub mod FreeNamed

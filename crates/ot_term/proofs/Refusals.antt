@@ -18,7 +18,7 @@ pub nesting_from : {T : Type 0} (r : Result T TermFault) (x : TableFault) → Is
     → r ≡ Err Nesting → x ≡ of_types.Nesting
 nesting_from (Ok v) x h p = absurd h
 nesting_from (Err y) of_types.Nesting h p = refl
-nesting_from (Err y) of_types.Memory h p = let e : y ≡ Nesting = cc in cc
+nesting_from (Err y) (of_types.Memory memory) h p = let e : y ≡ Nesting = cc in cc
 
 -- an application whose argument is of the type that the function takes
 pub application-typed : (f x : Named ℕ) (tf tx a b : Ty ℕ) → named_type numbers f ≡ Some tf → tf ≡ fun_ty numbers a b

@@ -5,7 +5,7 @@ use Rattle.std.proofs.Common.{◌++◌, length, slice_get, get_or, Some, refl, s
 use Rattle.std.proofs.lemmas.List.{length-map}
 use Rattle.std.proofs.lemmas.Option.{get_or_from_slice_get, slice_get-get_or, same_Some}
 use Rattle.std.specs.Cmp.Derive.{both_true}
-use Rattle.ot_logic.specs.Trees.{Ty, TyVar, Tm, Named, NVar, NConst, NApp, NAbs}
+use Rattle.ot_logic.specs.Trees.{Ty, TyVar, Named, NVar, NConst, NApp, NAbs}
 use Rattle.ot_logic.specs.Hol.{depth_limit}
 use Rattle.ot_logic.specs.Table.{Extends, IsInjective}
 use Rattle.ot_logic.specs.Interned.{NodeLaws, grow}
@@ -15,6 +15,7 @@ use Rattle.indexmap.specs.IndexMap.{IndexMap, keys, get, insert_entry, insert_in
 use Rattle.indexmap.proofs.MapLemmas.{Found-position, some_index, index-absent, or_len-absent, absent_from_lookup}
 use Rattle.ot_type.specs.TypeTable.{type_at, IsTypeTable}
 use Rattle.ot_type.proofs.TypeTableLemmas.{type_at-Extends}
+use Rattle.ot_class.specs.Class.{ClassTable, IsNumber, IsNumberOf, Grows as ClassesGrow, AreOnce}
 use Rattle.ot_term.specs.Term.{TermTable}
 use Rattle.ot_term.proofs.Limit.{limit_parts}
 use Rattle.ot_term.proofs.Classing.{class-types, class-grown, class_at-entry, are_alike, class_new, classes-push}
@@ -95,7 +96,7 @@ module _ (tys : List (Ty ℕ)) where
   same_tree types ts terms (Abs v x) (App g y) a b p = cc
 
   -- what stands beside a node, by its tree alone
-  beside_of : (cs : List (Tm ℕ)) (ts : List (Named ℕ)) (n : TermNode) (b : NodeInfo) (t : Named ℕ)
+  beside_of : (cs : ClassTable) (ts : List (Named ℕ)) (n : TermNode) (b : NodeInfo) (t : Named ℕ)
       → t ≡ term_of tys ts n → Suits tys t b.ty b.depth → IsClassOf tys cs t b.class → IsBeside tys cs ts n b
   beside_of cs ts n b t e s k =
       record {
@@ -103,7 +104,7 @@ module _ (tys : List (Ty ℕ)) where
         class = subst (λ t. IsClassOf tys cs t b.class) e k;
       }
 
-  pub laws : IsInjective tys → (cs : List (Tm ℕ)) → NodeLaws (term_of tys) (AreBelow (length tys)) (IsBeside tys cs)
+  pub laws : IsInjective tys → (cs : ClassTable) → NodeLaws (term_of tys) (AreBelow (length tys)) (IsBeside tys cs)
       node_eq
   laws types cs = record {
     more_below = more_below;
@@ -147,11 +148,11 @@ module _ (tys us : List (Ty ℕ)) (e : Extends tys us) where
     limit = h.limit;
   }
 
-  pub terms_of-types : (cs : List (Tm ℕ)) (es : List (TermNode × NodeInfo)) (ts : List (Named ℕ))
+  pub terms_of-types : (cs : ClassTable) (es : List (TermNode × NodeInfo)) (ts : List (Named ℕ))
       → AreTermNodes tys cs es ts → terms_of us es ≡ terms_of tys es
   terms_of-types cs es ts nodes = grow-types es (λ i n b p. (i, (nodes.entries i n b p).below)) []
 
-  pub sound-types : (cs : List (Tm ℕ)) (es : List (TermNode × NodeInfo)) (ts : List (Named ℕ))
+  pub sound-types : (cs : ClassTable) (es : List (TermNode × NodeInfo)) (ts : List (Named ℕ))
       → IsTermSound tys cs es ts → IsTypeTable us → IsTermSound us cs es ts
   sound-types cs es ts sound table = record {
     nodes = record {
@@ -179,9 +180,9 @@ module _ (tys us : List (Ty ℕ)) (e : Extends tys us) where
     };
   }
 
--- ---- the nameless terms grow, and the terms stay
-pub sound-classes : (tys : List (Ty ℕ)) (cs ds : List (Tm ℕ)) (es : List (TermNode × NodeInfo)) (ts : List (Named ℕ))
-    → Extends cs ds → IsInjective ds → IsTermSound tys cs es ts → IsTermSound tys ds es ts
+-- ---- the classes grow, and the terms stay
+pub sound-classes : (tys : List (Ty ℕ)) (cs ds : ClassTable) (es : List (TermNode × NodeInfo)) (ts : List (Named ℕ))
+    → ClassesGrow cs ds → AreOnce ds → IsTermSound tys cs es ts → IsTermSound tys ds es ts
 sound-classes tys cs ds es ts e one sound = record {
   nodes = record {
     same_length = sound.nodes.same_length;
@@ -202,7 +203,7 @@ sound-classes tys cs ds es ts e one sound = record {
   table = sound.table;
 }
 
-module _ (tys : List (Ty ℕ)) (cs : List (Tm ℕ)) (es : List (TermNode × NodeInfo)) (ts : List (Named ℕ))
+module _ (tys : List (Ty ℕ)) (cs : ClassTable) (es : List (TermNode × NodeInfo)) (ts : List (Named ℕ))
     (nodes : AreTermNodes tys cs es ts) where
   -- what stands beside a node is of the term at its number
   pub suits_at : (i : ℕ) (n : TermNode) (b : NodeInfo) → slice_get es i ≡ Some (n, b)
@@ -225,7 +226,7 @@ module _ (tys : List (Ty ℕ)) (cs : List (Tm ℕ)) (es : List (TermNode × Node
       subst (IsClassOf tys cs (term_at ts i)) e.3 (classed_at i e.0 e.1 e.2)
 
   -- what callers may know of the trees, from the facts of the nodes
-  table_from : IsInjective tys → IsInjective cs → IsTypeTable tys
+  table_from : IsInjective tys → AreOnce cs → IsTypeTable tys
       → IsTermTable (record { types = tys; terms = ts; classes = classes_of es })
   table_from one forms types = record {
     types = types;
@@ -255,7 +256,7 @@ only_parts j k (Const n t) h = tt
 only_parts j k (App f x) h = h
 only_parts j k (Abs v b) h = h.1
 
-module _ (tys : List (Ty ℕ)) (cs : List (Tm ℕ)) (es : List (TermNode × NodeInfo))
+module _ (tys : List (Ty ℕ)) (cs : ClassTable) (es : List (TermNode × NodeInfo))
     (sound : IsTermSound tys cs es (terms_of tys es)) where
   -- the class of each number
   pub class_at-number : (i : ℕ) → i < length es
@@ -264,7 +265,7 @@ module _ (tys : List (Ty ℕ)) (cs : List (Tm ℕ)) (es : List (TermNode × Node
       (slice_get-get_or (classes_of es) i 0
       (omega (arith, h, length-map es (λ (e : TermNode × NodeInfo). e.1.class))))
 
-  pub classes_within : (i : ℕ) → i < length es → get_or (classes_of es) i 0 < length cs
+  pub classes_within : (i : ℕ) → i < length es → IsNumber cs (get_or (classes_of es) i 0)
   classes_within i h = (class_at-number i h).within
 
   pub parts_below : (t : TermTable) → table_of tys es ≡ t → (n : TermNode)
@@ -274,9 +275,9 @@ module _ (tys : List (Ty ℕ)) (cs : List (Tm ℕ)) (es : List (TermNode × Node
       ∙ sound.nodes.same_length in
       subst (λ k. PartsBelow k n) same (only_parts (length t.types) (length t.terms) n h)
 
-  -- the class of a node whose nameless form was added
-  pub class_added : (t : TermTable) → table_of tys es ≡ t → (ds : List (Tm ℕ)) (n : TermNode) (c : ℕ)
-      → AreBelow (length t.types) (length t.terms) n → slice_get ds c ≡ Some (form_of cs (classes_of es) n)
+  -- the class of a node whose class was added
+  pub class_added : (t : TermTable) → table_of tys es ≡ t → (ds : ClassTable) (n : TermNode) (c : ℕ)
+      → AreBelow (length t.types) (length t.terms) n → IsNumberOf ds (form_of cs (classes_of es) n) c
       → IsClassOf tys ds (term_of tys (terms_of tys es) n) c
   class_added t view ds n c h p =
       let below : AreBelow (length tys) (length (terms_of tys es)) n =
@@ -289,14 +290,14 @@ pub depth-limit : (tys : List (Ty ℕ)) (t : Named ℕ) (ty depth : ℕ) → Sui
 depth-limit tys t ty depth s = omega (arith, s.depth, (limit_parts t s.limit).0)
 
 -- what an insert of a new node leaves, of the table t
-pub record PushedTerm (tys : List (Ty ℕ)) (cs : List (Tm ℕ)) (es : List (TermNode × NodeInfo)) (t : TermTable)
+pub record PushedTerm (tys : List (Ty ℕ)) (cs : ClassTable) (es : List (TermNode × NodeInfo)) (t : TermTable)
     (n : TermNode) (new : List (TermNode × NodeInfo)) : Type 0 where
   pub sound : IsTermSound tys cs new (terms_of tys new)
   pub trees : terms_of tys new ≡ t.terms ++ term_of t.types t.terms n ∷ []
   pub last : slice_get (terms_of tys new) (length es) ≡ Some (term_of t.types t.terms n)
   pub grows : Grows t (record { types = tys; terms = terms_of tys new; classes = classes_of new })
 
-module _ {S : Type 0} (tys : List (Ty ℕ)) (cs : List (Tm ℕ)) (m : IndexMap TermNode NodeInfo S)
+module _ {S : Type 0} (tys : List (Ty ℕ)) (cs : ClassTable) (m : IndexMap TermNode NodeInfo S)
     (sound : IsTermSound tys cs m.entries (terms_of tys m.entries)) (n : TermNode) where
   pub found_term : (t : TermTable) → table_of tys m.entries ≡ t → (i : ℕ) → position (node_eq n) (keys m) ≡ Some i
       → slice_get t.terms i ≡ Some (term_of t.types t.terms n)
@@ -335,19 +336,19 @@ module _ {S : Type 0} (tys : List (Ty ℕ)) (cs : List (Tm ℕ)) (m : IndexMap T
       })
 
 -- ---- a node that is looked up, and put in where it is new
-form_below : (k m : ℕ) (ks : List ℕ) → ((i : ℕ) → i < m → get_or ks i 0 < k) → (n : TermNode) → PartsBelow m n
-    → IsFormBelow k (form_with ks n)
+form_below : (cs : ClassTable) (m : ℕ) (ks : List ℕ) → ((i : ℕ) → i < m → IsNumber cs (get_or ks i 0))
+    → (n : TermNode) → PartsBelow m n → IsFormBelow cs (form_with ks n)
 form_below k m ks within (Var v) h = tt
 form_below k m ks within (Const n t) h = tt
 form_below k m ks within (App f x) h = (within f h.0, within x h.1)
 form_below k m ks within (Abs v b) h = within b h
 
-module _ {S : Type 0} (tys : List (Ty ℕ)) (cs : List (Tm ℕ)) (m : IndexMap TermNode NodeInfo S)
+module _ {S : Type 0} (tys : List (Ty ℕ)) (cs : ClassTable) (m : IndexMap TermNode NodeInfo S)
     (sound : IsTermSound tys cs m.entries (terms_of tys m.entries)) (t : TermTable)
     (view : table_of tys m.entries ≡ t) (n : TermNode) where
   pub classes_below : AreBelow (length t.types) (length t.terms) n
-      → IsFormBelow (length cs) (form_with (classes_of m.entries) n)
-  classes_below below = form_below (length cs) (length m.entries) (classes_of m.entries)
+      → IsFormBelow cs (form_with (classes_of m.entries) n)
+  classes_below below = form_below cs (length m.entries) (classes_of m.entries)
       (classes_within tys cs m.entries sound) n (parts_below tys cs m.entries sound t view n below)
 
   pub looked_up : ContainsKey node_eq m n → (i : ℕ) → i ≡ insert_index node_eq m n
@@ -361,10 +362,10 @@ module _ {S : Type 0} (tys : List (Ty ℕ)) (cs : List (Tm ℕ)) (m : IndexMap T
           (found_term tys cs m sound n t view j p)
       by None p = absurd (true≢false (sym there ∙ sym (some_index (node_eq n) m.entries) ∙ ap is_some p))
 
-  -- the class was added to the nameless terms before
-  pub put_in : (ds : List (Tm ℕ)) → Extends cs ds → IsInjective ds → (b : NodeInfo)
+  -- the class was added before
+  pub put_in : (ds : ClassTable) → ClassesGrow cs ds → AreOnce ds → (b : NodeInfo)
       → AreBelow (length t.types) (length t.terms) n → Suits t.types (term_of t.types t.terms n) b.ty b.depth
-      → slice_get ds b.class ≡ Some (form_of cs (classes_of m.entries) n) → get node_eq m n ≡ None
+      → IsNumberOf ds (form_of cs (classes_of m.entries) n) b.class → get node_eq m n ≡ None
       → (new : List (TermNode × NodeInfo)) → new ≡ insert_entry node_eq m.entries n b
       → PushedTerm tys ds m.entries t n new
   put_in ds more one b below suits form none new inserted =

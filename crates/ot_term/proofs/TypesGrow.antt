@@ -1,7 +1,8 @@
 -- A table whose types grow: its terms stay.
 use Rattle.std.specs.Prelude.{◌≡◌, ℕ, ◌≤◌, max, List}
 use Rattle.std.proofs.Common.{refl, sym, subst}
-use Rattle.ot_logic.specs.Trees.{Ty, Tm}
+use Rattle.ot_logic.specs.Trees.{Ty}
+use Rattle.ot_class.specs.Class.{ClassTable}
 use Rattle.ot_logic.specs.Table.{Extends}
 use Rattle.ot_logic.specs.Bounds.{names_in}
 use Rattle.ot_logic.proofs.TableLemmas.{Extends-refl}
@@ -14,13 +15,13 @@ use Rattle.ot_term.proofs.TermTableLemmas.{terms_of-types, sound-types, table_of
 use Rattle.ot_term.proofs.NamesIn.{names-types}
 
 -- what a call on types leaves of the table `old`, by what it leaves of the types
-pub record TypesGrown (tys : List (Ty ℕ)) (cs : List (Tm ℕ)) (es : List (TermNode × NodeInfo)) (old : TermTable)
+pub record TypesGrown (tys : List (Ty ℕ)) (cs : ClassTable) (es : List (TermNode × NodeInfo)) (old : TermTable)
     (us : List (Ty ℕ)) : Type 0 where
   pub sound : IsTermSound us cs es (terms_of us es)
   pub terms : terms_of us es ≡ old.terms
   pub grown : (k : ℕ) → names_in us ≤ max (names_in tys) k → IsGrownTo k old (table_of us es)
 
-pub types_grown : (tys us : List (Ty ℕ)) (cs : List (Tm ℕ)) (es : List (TermNode × NodeInfo)) (old : TermTable)
+pub types_grown : (tys us : List (Ty ℕ)) (cs : ClassTable) (es : List (TermNode × NodeInfo)) (old : TermTable)
     → table_of tys es ≡ old → IsTermSound tys cs es (terms_of tys es) → Extends tys us → IsTypeTable us
     → TypesGrown tys cs es old us
 types_grown tys us cs es old view sound e types =

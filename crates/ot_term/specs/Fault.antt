@@ -7,4 +7,4 @@ use Rattle.ot_term.specs.declared.term.TermFault.TheVariants.{Nesting, Memory}
 -- the refusal of a term whose type is refused
 abbrev pub term_fault : TableFault → TermFault
 term_fault of_types.Nesting = Nesting
-term_fault of_types.Memory = Memory
+term_fault (of_types.Memory memory) = Memory memory

@@ -7,7 +7,7 @@ use Rattle.ot_logic.specs.Hol.{IsFree}
 use Rattle.ot_logic.specs.NamedTerms.{nameless}
 use Rattle.ot_logic.specs.Naming.{numbers}
 use Rattle.ot_type.specs.TypeTable.{type_at}
-use Rattle.ot_class.specs.declared.node.Key.{Key}
+use Rattle.ot_lists.specs.declared.list.Key.{Key}
 use Rattle.ot_term.specs.TermTable.{variable_of}
 use Rattle.ot_term.specs.declared.term.VarKey.{VarKey}
 
@@ -21,7 +21,7 @@ pub record AreFree (tys : List (Ty ℕ)) (t : Named ℕ) (vs : List VarKey) : Ty
 abbrev pub key_at : ℕ → ℕ → VarKey
 key_at n t = record { name = n; ty = t }
 
--- the variable of a nameless form, as one of a term
+-- the variable of a class, as one of a term
 abbrev pub var_key : Key → VarKey
 var_key v = key_at v.name v.ty
 

@@ -1,7 +1,7 @@
 -- The table of terms over the table of types.
 use Rattle.std.specs.Prelude.{◌≡◌, ◌↔◌, ℕ, ◌<◌, ◌≤◌, max, Bool, true, List}
 use Rattle.std.specs.Prelude.{map, length, slice_get, slice_index_or, Some}
-use Rattle.ot_logic.specs.Trees.{Ty, TyVar, Variable, Tm, Named, NVar, NConst, NApp, NAbs}
+use Rattle.ot_logic.specs.Trees.{Ty, TyVar, Variable, Named, NVar, NConst, NApp, NAbs}
 use Rattle.ot_logic.specs.Hol.{is_shallow}
 use Rattle.ot_logic.specs.NamedTerms.{named_type, named_depth, nameless}
 use Rattle.ot_logic.specs.Naming.{numbers}
@@ -9,7 +9,8 @@ use Rattle.ot_logic.specs.Bounds.{names_in, names_in_terms}
 use Rattle.ot_logic.specs.Table.{Extends, IsInjective}
 use Rattle.ot_logic.specs.Interned.{trees_of, IsSound}
 use Rattle.ot_type.specs.TypeTable.{type_at, IsTypeTable}
-use Rattle.ot_class.specs.Class.{class_at}
+use Rattle.ot_shape.specs.Shape.{class_of}
+use Rattle.ot_class.specs.Class.{ClassTable, class_at, IsNumber, AreOnce}
 use Rattle.ot_class.specs.Spelled.{spelled, IsOver}
 use Rattle.ot_term.specs.Term.{TermTable}
 use Rattle.ot_term.specs.declared.term.VarKey.{VarKey}
@@ -50,14 +51,14 @@ pub record Suits (tys : List (Ty ℕ)) (t : Named ℕ) (k d : ℕ) : Type 0 wher
   pub depth : d ≡ named_depth numbers t
   pub limit : is_within_limit t ≡ true
 
--- c is the number of the tree's nameless form, which is kept over numbers of types
-pub record IsClassOf (tys : List (Ty ℕ)) (cs : List (Tm ℕ)) (t : Named ℕ) (c : ℕ) : Type 0 where
-  pub within : c < length cs
+-- c is the number of the tree's class, which is kept over numbers of types
+pub record IsClassOf (tys : List (Ty ℕ)) (cs : ClassTable) (t : Named ℕ) (c : ℕ) : Type 0 where
+  pub within : IsNumber cs c
   pub over : IsOver (length tys) (class_at cs c)
-  pub form : spelled tys (class_at cs c) ≡ nameless numbers t
+  pub form : spelled tys (class_at cs c) ≡ class_of numbers t
 
 -- what stands beside a node
-pub record IsBeside (tys : List (Ty ℕ)) (cs : List (Tm ℕ)) (ts : List (Named ℕ)) (n : TermNode) (b : NodeInfo) : Type
+pub record IsBeside (tys : List (Ty ℕ)) (cs : ClassTable) (ts : List (Named ℕ)) (n : TermNode) (b : NodeInfo) : Type
     0 where
   pub suits : Suits tys (term_of tys ts n) b.ty b.depth
   pub class : IsClassOf tys cs (term_of tys ts n) b.class
@@ -98,13 +99,13 @@ pub record IsGrownTo (k : ℕ) (old new : TermTable) : Type 0 where
   pub names : NamesUpTo k old new
   pub table : IsTermTable new
 
--- what the nodes keep, over the trees of the types and the nameless terms
-abbrev pub AreTermNodes : List (Ty ℕ) → List (Tm ℕ) → List (TermNode × NodeInfo) → List (Named ℕ) → Type 0
+-- what the nodes keep, over the trees of the types and the classes
+abbrev pub AreTermNodes : List (Ty ℕ) → ClassTable → List (TermNode × NodeInfo) → List (Named ℕ) → Type 0
 AreTermNodes tys cs es ts = IsSound (term_of tys) (AreBelow (length tys)) (IsBeside tys cs) es ts
 
 -- what the fields keep, with what callers may know of the trees
-pub record IsTermSound (tys : List (Ty ℕ)) (cs : List (Tm ℕ)) (es : List (TermNode × NodeInfo))
+pub record IsTermSound (tys : List (Ty ℕ)) (cs : ClassTable) (es : List (TermNode × NodeInfo))
     (ts : List (Named ℕ)) : Type 0 where
   pub nodes : AreTermNodes tys cs es ts
-  pub forms : IsInjective cs
+  pub forms : AreOnce cs
   pub table : IsTermTable (record { types = tys; terms = ts; classes = classes_of es })

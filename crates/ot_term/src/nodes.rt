@@ -20,7 +20,8 @@ use ot_type::{TableFault, TypeId, TypeSubst};
 use std::alloc::Global;
 
 /// A table of terms whose nodes are taken up one by one, each for a step over the ledger `L`. No other call gives the
-/// parts of a node. The calls that make and read terms are those of `Terms`, with the same answers.
+/// parts of a node, but for the variables that are free in a term. The calls that make and read terms are those of
+/// `Terms`, with the same answers.
 pub trait Nodes<L> {
     ghost table: { Self → TermTable };
 

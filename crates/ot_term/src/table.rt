@@ -1,7 +1,6 @@
 //! The table: its nodes, what stands beside them, and how they are read.
 ghost use Rattle.std.specs.Prelude.{◌≡◌, ◌<◌, ◌≤◌, max, [], Some, slice_get};
 ghost use Rattle.std.specs.Prelude.{slice_index_or, length, IfOk, IfSome, OnErr, Decides};
-ghost use Rattle.ot_logic.specs.Table.{Extends, IsInjective};
 ghost use Rattle.ot_logic.specs.Trees.{NVar};
 ghost use Rattle.ot_logic.specs.Hol.{depth_limit};
 ghost use Rattle.ot_logic.specs.NamedTerms.{named_type, named_depth};
@@ -9,7 +8,8 @@ ghost use Rattle.ot_logic.specs.Naming.{numbers};
 ghost use Rattle.ot_logic.specs.Bounds.{bound_named, names_in_terms};
 ghost use Rattle.ot_type.specs.TypeTable.{type_at};
 ghost use Rattle.ot_term.specs.TermTable.{classes_of};
-ghost use Rattle.ot_term.specs.Classing.{form_with, nameless_form, IsFormBelow, PartsBelow};
+ghost use Rattle.ot_class.specs.Class.{IsNumberOf, Grows as ClassesGrow, AreOnce};
+ghost use Rattle.ot_term.specs.Classing.{form_with, form_class, IsFormBelow, PartsBelow};
 
 mod build;
 mod equation;
@@ -21,13 +21,13 @@ mod walk;
 use crate::term::{TermId, TermNode, VarKey};
 use indexmap::IndexMap;
 use indexmap::map::Entry;
-use ot_class::{ClassId, Classes};
+use ot_class::{ClassId, Classes, Key};
 use ot_logic::{Memory, NameId};
 use ot_type::{TypeId, Types};
 use std::alloc::Global;
 use std::marker::Model;
 
-/// What stands beside a node: the number of its type, its depth, and the number of its nameless form.
+/// What stands beside a node: the number of its type, its depth, and the number of its class.
 #[derive(Clone, Copy)]
 struct NodeInfo {
     ty: TypeId,
@@ -48,7 +48,7 @@ enum Form {
 #[derive(Drop)]
 pub struct Terms {
     types: Types,
-    // Nameless forms over the numbers of the types; there may be more than the terms have.
+    // Classes over the numbers of the types; there may be more than the terms have.
     classes: Classes,
     nodes: IndexMap<TermNode, NodeInfo>,
     // By types, where the constant `=` at a type may stand: what is found is looked at before it is used.
@@ -179,9 +179,7 @@ impl Terms {
         ensures err { OnErr result (self.new ≡ self.old) }
         ensures table { IsTermTable self.new }
     {
-        if self.nodes.len() > u32::MAX as usize {
-            return Err(Memory);
-        }
+        Memory::unless_full(self.nodes.len())?;
         let form = with_classes(&self.nodes, &node);
         match self.nodes.entry(node)? {
             Entry::Occupied(entry) => Ok(TermId(entry.index() as u32)),
@@ -210,16 +208,26 @@ fn with_classes(nodes: &IndexMap<TermNode, NodeInfo>, node: &TermNode) -> Form
 
 /// The class of a form.
 fn class_of(classes: &mut Classes, form: Form) -> Result<ClassId, Memory>
-    requires { IsFormBelow (length classes.old) form }
-    ensures ok { IfOk result (λ c. slice_get classes.new c ≡ Some (nameless_form classes.old form)) }
-    ensures extends { Extends classes.old classes.new }
-    ensures once { IsInjective classes.new }
+    requires { IsFormBelow classes.old form }
+    ensures ok { IfOk result (IsNumberOf classes.new (form_class classes.old form)) }
+    ensures grows { ClassesGrow classes.old classes.new }
+    ensures once { AreOnce classes.new }
 {
     match form {
-        Form::Var(v) => classes.free(v.name, v.ty),
+        Form::Var(v) => classes.var(key_of(v)),
         Form::Const(name, ty) => classes.constant(name, ty),
         Form::App(f, x) => classes.app(f, x),
-        Form::Abs(v, body) => classes.abs(v.name, v.ty, body),
+        Form::Abs(v, body) => classes.abs(key_of(v), body),
+    }
+}
+
+/// A variable, as the table of classes has it.
+fn key_of(v: VarKey) -> Key
+    ensures { result ≡ record { name = v.name; ty = v.ty } }
+{
+    Key {
+        name: v.name,
+        ty: v.ty,
     }
 }
 

@@ -1,6 +1,7 @@
 //! Terms by number, the symbols in them, and why a table has no number for a term.
 ghost use Rattle.std.specs.Prelude.{◌≡◌};
 ghost use Rattle.ot_term.specs.NodeHash.{node_writes, node_writes-alike};
+ghost use Rattle.ot_logic.specs.RanOut.{ran_out};
 
 use ot_logic::{Memory, NameId};
 use ot_type::{TableFault, TypeId};
@@ -112,17 +113,17 @@ pub enum TermFault {
     /// The term would pass the nesting limit: its depth, or the depth of the type of one of its subterms.
     Nesting,
     /// Memory ran out.
-    Memory,
+    Memory(Memory),
 }
 
 impl From<Memory> for TermFault {
     ghost use Rattle.std.specs.Prelude.{◌≡◌};
     ghost use Rattle.ot_term.specs.declared.term.TermFault.TheVariants.{Memory};
 
-    ghost from_gives = { λ _ r. r ≡ Memory };
+    ghost from_gives = { λ _ r. r ≡ Memory ran_out };
 
-    fn from(_refused: Memory) -> TermFault {
-        TermFault::Memory
+    fn from(memory: Memory) -> TermFault {
+        TermFault::Memory(memory)
     }
 }
 
@@ -135,7 +136,7 @@ impl From<TableFault> for TermFault {
     fn from(refused: TableFault) -> TermFault {
         match refused {
             TableFault::Nesting => TermFault::Nesting,
-            TableFault::Memory => TermFault::Memory,
+            TableFault::Memory(memory) => TermFault::Memory(memory),
         }
     }
 }

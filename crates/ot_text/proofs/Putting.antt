@@ -45,7 +45,7 @@ gives-up x (Bytes bs r) t room TooLarge p e h g =
     let n = g refl in
     let f = lt-leb (length x) r (omega (arith, n, h)) in
     record { state = inr (p ∙ rw f refl) }
-gives-up x (Bytes bs r) t room Memory p e h g = record { state = inl p }
+gives-up x (Bytes bs r) t room (Memory memory) p e h g = record { state = inl p }
 gives-up x Full t room fault p e h g = cc
 gives-up x NoMemory t room fault p e h g = cc
 

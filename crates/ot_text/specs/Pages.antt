@@ -37,7 +37,7 @@ HasRoom NoMemory n = Unit {0}
 abbrev pub stopped : Option PrintFault → Printed → Printed
 stopped None s = s
 stopped (Some TooLarge) s = Full
-stopped (Some Memory) s = NoMemory
+stopped (Some (Memory memory)) s = NoMemory
 
 abbrev pub printed : Page → Printed
 printed p = stopped p.fault (Bytes p.bytes.items p.room)

@@ -8,7 +8,7 @@ ghost use Rattle.ot_text.specs.Separated.{separator as separator_text};
 
 use crate::fault::PrintFault;
 use itoa::Buffer;
-use ot_logic::Name;
+use ot_logic::{Memory, Name};
 use std::alloc::Global;
 
 /// A text in the making. After a fault nothing more is put on it.
@@ -66,7 +66,7 @@ impl Page {
         }
         match self.bytes.extend_from_slice(text) {
             Ok(()) => self.room -= text.len(),
-            Err(_) => self.fault = Some(PrintFault::Memory),
+            Err(refused) => self.fault = Some(PrintFault::Memory(Memory::from(refused))),
         }
     }
 
@@ -87,8 +87,8 @@ impl Page {
             return;
         }
         let len = self.bytes.len();
-        if name.spell(&mut self.bytes).is_err() {
-            self.fault = Some(PrintFault::Memory);
+        if let Err(memory) = name.spell(&mut self.bytes) {
+            self.fault = Some(PrintFault::Memory(memory));
             return;
         }
         let added = self.bytes.len() - len;
@@ -123,7 +123,7 @@ impl Page {
         }
         match out.extend_from_slice(self.bytes.as_slice()) {
             Ok(()) => Ok(()),
-            Err(_) => Err(PrintFault::Memory),
+            Err(refused) => Err(PrintFault::Memory(Memory::from(refused))),
         }
     }
 }

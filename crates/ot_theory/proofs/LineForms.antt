@@ -9,7 +9,7 @@ use Rattle.std.proofs.lemmas.List.{take-append-drop}
 use Rattle.ot_lines.specs.Pieces.{pieces, IsWhole, IsOpen, AreWhole, text_of, is_skipped, trim_front}
 use Rattle.ot_lines.proofs.Pieces.{one_cut-from}
 use Rattle.ot_logic.specs.Lists.{IsMember}
-use Rattle.ot_theory.specs.Lines.{LineText, numbered, lines_of}
+use Rattle.ot_theory.specs.Lines.{LineText, numbered_lines, lines_of}
 use Rattle.ot_theory.specs.Forms.{LineForm, Statement, Opening, Closing, NoForm, form, form_after, identifier_len}
 use Rattle.ot_theory.specs.Places.{newlines}
 use Rattle.ot_theory.proofs.Trims.{newlines-append, newline_free, end_kept, text_in}
@@ -21,14 +21,14 @@ pub record IsPlainLine (line : LineText) : Type 0 where
   pub plain : newlines line.text ≡ 0
 
 first_plain : (before : ℕ) (p : List ℕ) (ps : List (List ℕ)) → (IsWhole p) ⊎ (IsOpen p)
-    → AllByRecursion IsPlainLine (numbered (before + 1) ps)
-    → AllByRecursion IsPlainLine (numbered before (p ∷ ps))
+    → AllByRecursion IsPlainLine (numbered_lines (before + 1) ps)
+    → AllByRecursion IsPlainLine (numbered_lines before (p ∷ ps))
 first_plain before p ps w others = by_skip (is_skipped (text_of p)) refl where
-  by_skip : (b : Bool) → is_skipped (text_of p) ≡ b → AllByRecursion IsPlainLine (numbered before (p ∷ ps))
+  by_skip : (b : Bool) → is_skipped (text_of p) ≡ b → AllByRecursion IsPlainLine (numbered_lines before (p ∷ ps))
   by_skip true skips = rw skips others
   by_skip false skips = rw skips (record { plain = (text_in p w).text_plain }, others)
 
-plain_from : (before : ℕ) (ps : List (List ℕ)) → AreWhole ps → AllByRecursion IsPlainLine (numbered before ps)
+plain_from : (before : ℕ) (ps : List (List ℕ)) → AreWhole ps → AllByRecursion IsPlainLine (numbered_lines before ps)
 plain_from before [] w = tt
 plain_from before (p ∷ []) w = first_plain before p [] w tt
 plain_from before (p ∷ q ∷ qs) w = first_plain before p (q ∷ qs) (inl w.0) (plain_from (before + 1) (q ∷ qs) w.1)

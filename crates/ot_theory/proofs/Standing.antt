@@ -7,7 +7,7 @@ use Rattle.std.specs.Option.{option_to_list}
 use Rattle.std.proofs.lemmas.Grind.{flat_map-append}
 use Rattle.ot_lines.specs.Pieces.{pieces, IsWhole, IsOpen, AreWhole, text_of, is_skipped}
 use Rattle.ot_lines.proofs.Pieces.{one_cut-from}
-use Rattle.ot_theory.specs.Lines.{LineText, numbered, lines_of}
+use Rattle.ot_theory.specs.Lines.{LineText, numbered_lines, lines_of}
 use Rattle.ot_theory.specs.Forms.{LineForm, Statement, Opening, Closing, NoForm, form}
 use Rattle.ot_theory.specs.Theory.{TagText, BlockText, TheoryText, State}
 use Rattle.ot_theory.specs.Theory.{with_statement, read_lines, finish, no_lines, theory}
@@ -35,8 +35,8 @@ LinesStand text from (line ∷ lines) =
 -- the first piece stands behind the text before it, and the lines of the others where they are said to
 line_first : (text before p : List ℕ) (ps : List (List ℕ)) (from : ℕ) → (IsWhole p) ⊎ (IsOpen p)
     → text ≡ (before ++ p) ++ concat ps → from ≤ length before
-    → ((k : ℕ) → k ≤ length (before ++ p) → LinesStand text k (numbered (newlines before + 1) ps))
-    → LinesStand text from (numbered (newlines before) (p ∷ ps))
+    → ((k : ℕ) → k ≤ length (before ++ p) → LinesStand text k (numbered_lines (newlines before + 1) ps))
+    → LinesStand text from (numbered_lines (newlines before) (p ∷ ps))
 line_first text before p ps from w whole le others = by_skip (is_skipped (text_of p)) refl where
   cut : TextIn p
   cut = text_in p w
@@ -59,7 +59,7 @@ line_first text before p ps from w whole le others = by_skip (is_skipped (text_o
   size = ap length cut.is ∙ length-append cut.front (text_of p ++ cut.back)
       ∙ ap (λ n. length cut.front + n) (length-append (text_of p) cut.back)
 
-  by_skip : (b : Bool) → is_skipped (text_of p) ≡ b → LinesStand text from (numbered (newlines before) (p ∷ ps))
+  by_skip : (b : Bool) → is_skipped (text_of p) ≡ b → LinesStand text from (numbered_lines (newlines before) (p ∷ ps))
   by_skip true skips = rw skips (others from (omega (arith, le, length-append before p)))
   by_skip false skips = rw skips (
     length start,
@@ -78,7 +78,7 @@ line_first text before p ps from w whole le others = by_skip (is_skipped (text_o
 
 -- behind the text before them, which has as many newlines as there are lines before
 lines_from : (text before : List ℕ) (ps : List (List ℕ)) (from : ℕ) → AreWhole ps → text ≡ before ++ concat ps
-    → from ≤ length before → LinesStand text from (numbered (newlines before) ps)
+    → from ≤ length before → LinesStand text from (numbered_lines (newlines before) ps)
 lines_from text before [] from w e le = tt
 lines_from text before (p ∷ []) from w e le =
     line_first text before p [] from w (e ∙ sym (append_assoc before p [])) le (λ k at. tt)
@@ -87,7 +87,7 @@ lines_from text before (p ∷ q ∷ qs) from w e le =
     let count : newlines (before ++ p) ≡ newlines before + 1 = newlines-append before p
     ∙ ap (λ n. newlines before + n) (one_newline p w.0) in
     line_first text before p (q ∷ qs) from (inl w.0) whole le
-    (λ k at. subst (λ (n : ℕ). LinesStand text k (numbered n (q ∷ qs))) count
+    (λ k at. subst (λ (n : ℕ). LinesStand text k (numbered_lines n (q ∷ qs))) count
     (lines_from text (before ++ p) (q ∷ qs) k w.1 whole at))
 
 lines_stand : (text : List ℕ) → LinesStand text 0 (lines_of text)

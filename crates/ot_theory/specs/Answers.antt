@@ -30,4 +30,4 @@ theory_of t = record { tags = tags_of t.tags.items; blocks = blocks_of t.blocks.
 abbrev pub Parses : Result Theory TheoryError → Result TheoryText (ℕ × TheoryFault) → Type 0
 Parses (Ok t) stated = stated ≡ Ok (theory_of t)
 Parses (Err (At line fault)) stated = stated ≡ Err (line, fault)
-Parses (Err Memory) stated = Unit {0}
+Parses (Err (Memory memory)) stated = Unit {0}

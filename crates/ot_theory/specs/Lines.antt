@@ -9,21 +9,21 @@ pub record LineText : Type 0 where
   pub text : List ℕ
 
 -- the lines of these pieces, behind so many others
-abbrev pub numbered : ℕ → List (List ℕ) → List LineText
-numbered before [] = []
-numbered before (p ∷ ps) =
-    if is_skipped (text_of p) then numbered (before + 1) ps
-    else record { number = before + 1; text = text_of p } ∷ numbered (before + 1) ps
+abbrev pub numbered_lines : ℕ → List (List ℕ) → List LineText
+numbered_lines before [] = []
+numbered_lines before (p ∷ ps) =
+    if is_skipped (text_of p) then numbered_lines (before + 1) ps
+    else record { number = before + 1; text = text_of p } ∷ numbered_lines (before + 1) ps
 
 -- the lines of a text that aren't passed over
 abbrev pub lines_of : List ℕ → List LineText
-lines_of text = numbered 0 (pieces text)
+lines_of text = numbered_lines 0 (pieces text)
 
 -- ---- the answers of the code
 
 -- the lines that are left from a place on, behind so many others
 abbrev pub lines_at : List ℕ → ℕ → ℕ → List LineText
-lines_at text at before = numbered before (pieces (drop at text))
+lines_at text at before = numbered_lines before (pieces (drop at text))
 
 -- how many lines there are, with those before the place
 abbrev pub line_count : List ℕ → ℕ → ℕ → ℕ

@@ -50,8 +50,8 @@ abbrev pub open_of : Option OpenBlock → Option BlockText
 open_of o = option_map (λ b. block_of b.block) o
 
 -- the state of the stated reading
-abbrev pub state_of : Reading → Option OpenBlock → State
-state_of r o = record { tags = tags_of r.theory.tags.items; blocks = closed_of r; open_block = open_of o }
+abbrev pub reading_state : Reading → Option OpenBlock → State
+reading_state r o = record { tags = tags_of r.theory.tags.items; blocks = closed_of r; open_block = open_of o }
 
 -- the sets hold what they are to hold
 pub record IsReading (r : Reading) (o : Option OpenBlock) : Type 0 where
@@ -61,16 +61,16 @@ pub record IsReading (r : Reading) (o : Option OpenBlock) : Type 0 where
 -- ---- refusals
 
 -- the answer stands for the stated one, unless memory ran out
-abbrev pub Gives : {A B : Type 0} → (A → B) → Result A Refusal → Result B TheoryFault → Type 0
-Gives value (Ok x) stated = stated ≡ Ok (value x)
-Gives value (Err (Fault fault)) stated = stated ≡ Err fault
-Gives value (Err Memory) stated = Unit {0}
+abbrev pub AnswersAs : {A B : Type 0} → (A → B) → Result A Refusal → Result B TheoryFault → Type 0
+AnswersAs value (Ok x) stated = stated ≡ Ok (value x)
+AnswersAs value (Err (Fault fault)) stated = stated ≡ Err fault
+AnswersAs value (Err (Memory memory)) stated = Unit {0}
 
 -- the same for a check
 abbrev pub Allows : Result (Unit {0}) Refusal → Result (Unit {0}) TheoryFault → Type 0
-Allows answer stated = Gives (λ u. u) answer stated
+Allows answer stated = AnswersAs (λ u. u) answer stated
 
 -- the error of a refusal at a line
-abbrev pub refused : ℕ → Refusal → TheoryError
-refused line (Fault fault) = errors.At line fault
-refused line Memory = errors.Memory
+abbrev pub error_at : ℕ → Refusal → TheoryError
+error_at line (Fault fault) = errors.At line fault
+error_at line (Memory memory) = errors.Memory memory

@@ -1,6 +1,7 @@
 ghost use Rattle.std.specs.Prelude.{◌≡◌};
-ghost use Rattle.ot_theory.specs.Reading.{refused};
+ghost use Rattle.ot_theory.specs.Reading.{error_at};
 ghost use Rattle.ot_theory.specs.declared.fault.Refusal.TheVariants as refusals;
+ghost use Rattle.ot_logic.specs.RanOut.{ran_out};
 
 use ot_logic::Memory as NoMemory;
 use std::alloc::AllocFailed;
@@ -30,38 +31,38 @@ pub enum TheoryFault {
 pub enum TheoryError {
     /// The first fault. Lines are counted from 1; line 0 is that of an empty text.
     At { line: u64, fault: TheoryFault },
-    Memory,
+    Memory(NoMemory),
 }
 
 /// Why a line was refused.
 #[derive(Clone, Copy)]
 pub(crate) enum Refusal {
     Fault(TheoryFault),
-    Memory,
+    Memory(NoMemory),
 }
 
 impl<T: Drop> From<AllocFailed<T>> for Refusal {
-    ghost from_gives = { λ _ r. r ≡ refusals.Memory };
+    ghost from_gives = { λ _ r. r ≡ refusals.Memory ran_out };
 
-    fn from(_: AllocFailed<T>) -> Refusal {
-        Refusal::Memory
+    fn from(refused: AllocFailed<T>) -> Refusal {
+        Refusal::Memory(NoMemory::from(refused))
     }
 }
 
 impl From<NoMemory> for Refusal {
-    ghost from_gives = { λ _ r. r ≡ refusals.Memory };
+    ghost from_gives = { λ _ r. r ≡ refusals.Memory ran_out };
 
-    fn from(_: NoMemory) -> Refusal {
-        Refusal::Memory
+    fn from(memory: NoMemory) -> Refusal {
+        Refusal::Memory(memory)
     }
 }
 
 /// The error of a refusal at a line.
 pub(crate) fn refused(line: u64, refusal: Refusal) -> TheoryError
-    ensures { result ≡ refused line refusal }
+    ensures { result ≡ error_at line refusal }
 {
     match refusal {
         Refusal::Fault(fault) => TheoryError::At { line, fault },
-        Refusal::Memory => TheoryError::Memory,
+        Refusal::Memory(memory) => TheoryError::Memory(memory),
     }
 }

@@ -35,7 +35,7 @@ pub fn quoted_name(alloc: Global, quoted: &[u8]) -> Result<Name, Memory>
 {
     match Name::read(alloc, quoted) {
         Ok(name) => Ok(name),
-        Err(NameFault::Memory) => Err(Memory),
+        Err(NameFault::Memory(memory)) => Err(memory),
         Err(NameFault::Unterminated | NameFault::Trailing) => unreachable!(),
     }
 }

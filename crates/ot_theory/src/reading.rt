@@ -3,7 +3,7 @@ ghost use Rattle.ot_theory.specs.Theory.{line_outside, line_inside, line_step, f
 ghost use Rattle.ot_theory.specs.Forms.{form, Opening};
 ghost use Rattle.ot_theory.specs.Lines.{line_of};
 ghost use Rattle.ot_theory.specs.Answers.{Parses, block_of};
-ghost use Rattle.ot_theory.specs.Reading.{state_of, IsReading, Gives};
+ghost use Rattle.ot_theory.specs.Reading.{reading_state, IsReading, AnswersAs};
 
 use crate::fault::{Refusal, TheoryError, TheoryFault};
 use crate::forms::{Form, form_of};
@@ -30,7 +30,7 @@ pub(crate) struct OpenBlock<'a> {
 
 impl<'a> Reading<'a> {
     pub fn new(alloc: Global) -> Reading<'a>
-        ensures state { state_of result None ≡ no_lines }
+        ensures state { reading_state result None ≡ no_lines }
         ensures sets { IsReading result None }
     {
         Reading {
@@ -50,8 +50,8 @@ impl<'a> Reading<'a> {
         line: Line<'a>,
     ) -> Result<Option<OpenBlock<'a>>, Refusal>
         requires { IsReading self.old current }
-        ensures step { Gives (state_of self.new) result
-            (line_step (state_of self.old current.entry) (line_of line.entry)) }
+        ensures step { AnswersAs (reading_state self.new) result
+            (line_step (reading_state self.old current.entry) (line_of line.entry)) }
         ensures sets { IfOk result (λ next. IsReading self.new next) }
     {
         match current {
@@ -63,8 +63,8 @@ impl<'a> Reading<'a> {
     /// The same outside the blocks.
     fn outside(&mut self, alloc: Global, line: Line<'a>) -> Result<Option<OpenBlock<'a>>, Refusal>
         requires { IsReading self.old None }
-        ensures step { Gives (state_of self.new) result
-            (line_outside (state_of self.old None) line.entry.number (form line.entry.text.now)) }
+        ensures step { AnswersAs (reading_state self.new) result
+            (line_outside (reading_state self.old None) line.entry.number (form line.entry.text.now)) }
         ensures sets { IfOk result (λ next. IsReading self.new next) }
     {
         let number = line.number;
@@ -92,8 +92,8 @@ impl<'a> Reading<'a> {
         name: &'a [u8],
     ) -> Result<Option<OpenBlock<'a>>, Refusal>
         requires { IsReading self.old None }
-        ensures step { Gives (state_of self.new) result
-            (line_outside (state_of self.old None) line (Opening name.entry.now)) }
+        ensures step { AnswersAs (reading_state self.new) result
+            (line_outside (reading_state self.old None) line (Opening name.entry.now)) }
         ensures sets { IfOk result (λ next. IsReading self.new next) }
     {
         if self.names.insert(name)? {
@@ -117,8 +117,8 @@ impl<'a> Reading<'a> {
         line: Line<'a>,
     ) -> Result<Option<OpenBlock<'a>>, Refusal>
         requires { IsReading self.old (Some current) }
-        ensures step { Gives (state_of self.new) result
-            (line_inside (state_of self.old (Some current.entry)) (block_of current.entry.block)
+        ensures step { AnswersAs (reading_state self.new) result
+            (line_inside (reading_state self.old (Some current.entry)) (block_of current.entry.block)
             line.entry.number (form line.entry.text.now)) }
         ensures sets { IfOk result (λ next. IsReading self.new next) }
     {
@@ -148,7 +148,7 @@ impl<'a> Reading<'a> {
         last: u64,
     ) -> Result<Theory<'a>, TheoryError>
         requires { IsReading self current }
-        ensures { Parses result (finish last (state_of self.entry current.entry)) }
+        ensures { Parses result (finish last (reading_state self.entry current.entry)) }
     {
         match current {
             Some(open_block) => Err(TheoryError::At {

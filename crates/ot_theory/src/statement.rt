@@ -6,7 +6,7 @@ ghost use Rattle.ot_theory.specs.Theory.{source_allowed, value_allowed, has_sour
 ghost use Rattle.ot_theory.specs.Values.{key_of, is_source};
 ghost use Rattle.ot_theory.specs.Interpretations.{Symbol, symbol_of};
 ghost use Rattle.ot_theory.specs.Answers.{tag_of, tags_of, block_of};
-ghost use Rattle.ot_theory.specs.Reading.{HoldsSymbols, has_symbol, Gives, Allows};
+ghost use Rattle.ot_theory.specs.Reading.{HoldsSymbols, has_symbol, AnswersAs, Allows};
 ghost use Rattle.ot_theory.specs.declared.fault.TheoryFault.TheVariants.{BadLine};
 ghost use Rattle.ot_theory.specs.declared.keys.Key.TheVariants.{Interpret};
 
@@ -27,7 +27,7 @@ pub(crate) fn add_statement<'a>(
     tag: Tag<'a>,
 ) -> Result<OpenBlock<'a>, Refusal>
     requires { HoldsSymbols current.symbols (tags_of current.block.statements.items) }
-    ensures statement { Gives (λ b. block_of b.block) result
+    ensures statement { AnswersAs (λ b. block_of b.block) result
         (statement_added (block_of current.entry.block) (tag_of tag.entry)) }
     ensures symbols { IfOk result (λ b. HoldsSymbols b.symbols (tags_of b.block.statements.items)) }
 {

@@ -19,15 +19,7 @@ fn is_quoted_rest(rest: &[u8], len: usize) -> bool
     requires { len < length rest.now }
     ensures { result ≡ is_quoted_rest rest.now (Some len) }
 {
-    if len > 0 {
-        if len == rest.len() - 1 {
-            is_text(&rest[..len])
-        } else {
-            false
-        }
-    } else {
-        false
-    }
+    len > 0 && len == rest.len() - 1 && is_text(&rest[..len])
 }
 
 fn first_quote(text: &[u8]) -> Option<usize>

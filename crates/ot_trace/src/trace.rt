@@ -88,9 +88,7 @@ impl Trace {
         ensures err { OnErr result (self.new ≡ self.old) }
         ensures once { IsInjective self.new }
     {
-        if self.steps.len() > u32::MAX as usize {
-            return Err(Memory);
-        }
+        Memory::unless_full(self.steps.len())?;
         let (index, _) = self.steps.insert_full(step, ())?;
         Ok(StepId(index as u32))
     }

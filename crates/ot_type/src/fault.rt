@@ -1,3 +1,5 @@
+ghost use Rattle.ot_logic.specs.RanOut.{ran_out};
+
 use ot_logic::Memory;
 use std::alloc::{AllocError, AllocFailed};
 
@@ -7,17 +9,17 @@ pub enum TableFault {
     /// The type or the term would be nested deeper than 4,096.
     Nesting,
     /// Memory ran out.
-    Memory,
+    Memory(Memory),
 }
 
 impl From<Memory> for TableFault {
     ghost use Rattle.std.specs.Prelude.{◌≡◌};
     ghost use Rattle.ot_type.specs.declared.fault.TableFault.TheVariants.{Memory};
 
-    ghost from_gives = { λ _ r. r ≡ Memory };
+    ghost from_gives = { λ _ r. r ≡ Memory ran_out };
 
-    fn from(_refused: Memory) -> TableFault {
-        TableFault::Memory
+    fn from(memory: Memory) -> TableFault {
+        TableFault::Memory(memory)
     }
 }
 
@@ -25,10 +27,10 @@ impl<T: Drop> From<AllocFailed<T>> for TableFault {
     ghost use Rattle.std.specs.Prelude.{◌≡◌};
     ghost use Rattle.ot_type.specs.declared.fault.TableFault.TheVariants.{Memory};
 
-    ghost from_gives = { λ _ r. r ≡ Memory };
+    ghost from_gives = { λ _ r. r ≡ Memory ran_out };
 
-    fn from(_refused: AllocFailed<T>) -> TableFault {
-        TableFault::Memory
+    fn from(refused: AllocFailed<T>) -> TableFault {
+        TableFault::Memory(Memory::from(refused))
     }
 }
 
@@ -36,9 +38,9 @@ impl From<AllocError> for TableFault {
     ghost use Rattle.std.specs.Prelude.{◌≡◌};
     ghost use Rattle.ot_type.specs.declared.fault.TableFault.TheVariants.{Memory};
 
-    ghost from_gives = { λ _ r. r ≡ Memory };
+    ghost from_gives = { λ _ r. r ≡ Memory ran_out };
 
-    fn from(_refused: AllocError) -> TableFault {
-        TableFault::Memory
+    fn from(refused: AllocError) -> TableFault {
+        TableFault::Memory(Memory::from(refused))
     }
 }

@@ -218,9 +218,7 @@ impl Types {
         ensures err { OnErr result (self.new ≡ self.old) }
         ensures table { IsTypeTable self.new }
     {
-        if self.nodes.len() > u32::MAX as usize {
-            return Err(Memory);
-        }
+        Memory::unless_full(self.nodes.len())?;
         let (index, _) = self.nodes.insert_full(node, beside)?;
         Ok(TypeId(index as u32))
     }

@@ -17,7 +17,7 @@ use Rattle.ot_machine.specs.Meaning.{origin_of, run_of, IsRun}
 use Rattle.ot_machine.specs.declared.session.Session.{Session}
 use Rattle.ot_machine.proofs.Kept.{origin-agree}
 use Rattle.ot_uses.specs.Placing.{marked_places, first_places}
-use Rattle.ot_uses.specs.Used.{numbered, places_in, same, assumption_places, definition_places}
+use Rattle.ot_uses.specs.Used.{beside_places, places_in, same, assumption_places, definition_places}
 use Rattle.ot_uses.proofs.Numbering.{filter-places, firsts-places}
 use Rattle.ot_uses.proofs.Marking.{IsIn, assumptions-found, definitions-found}
 use Rattle.ot_uses.proofs.Standing.{given-origins, made-origins}
@@ -71,7 +71,7 @@ module _ (s : Session) (run : IsRun s) (table : IsNameTable s.kernel.names)
       s.definition_steps.items definitions_in marks m s.assumption_steps.items assumptions_in
       ∙ (λ z. places_in
       (filter (λ p. is_among same p.1 (needed_origins same (at-is root root_in z ∷ []) (mades-are z)))
-      (numbered 0 (givens-are z))))
+      (beside_places 0 (givens-are z))))
       ∙ sym (filter-places (λ g. g.origin)
       (λ o. is_among same o (needed_origins same (origin_of s root ∷ []) (map (λ m. m.origin) r.definitions))) 0
       r.assumptions)
@@ -82,7 +82,7 @@ module _ (s : Session) (run : IsRun s) (table : IsNameTable s.kernel.names)
       root s.definition_steps.items definitions_in marks m
       ∙ (λ z. places_in
       (filter (λ p. is_among same p.1 (needed_definitions same (at-is root root_in z ∷ []) (mades-are z)))
-      (firsts_by same (λ p. p.1) (numbered 0 (mades-are z)))))
+      (firsts_by same (λ p. p.1) (beside_places 0 (mades-are z)))))
       ∙ sym (firsts-places (λ m. m.origin) (λ o. is_among same o
       (needed_definitions same (origin_of s root ∷ []) (map (λ m. m.origin) r.definitions)))
       0 r.definitions)

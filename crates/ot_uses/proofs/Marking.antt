@@ -24,7 +24,7 @@ use Rattle.ot_written.proofs.NeededLaw.{among-to, among-from}
 use Rattle.ot_written.proofs.Renaming.{origin-injective}
 use Rattle.ot_written.proofs.Same.{same-origin-law}
 use Rattle.ot_uses.specs.Placing.{is_marked, marked_places, first_places}
-use Rattle.ot_uses.specs.Used.{numbered, places_in, same}
+use Rattle.ot_uses.specs.Used.{beside_places, places_in, same}
 use Rattle.ot_uses.proofs.Numbering.{filter-places, firsts-places, numbered-member}
 use Rattle.ot_uses.proofs.Renamed.{reached-to, reached-from}
 use Rattle.ot_logic.proofs.Members.{IsMember-map}
@@ -44,15 +44,15 @@ both false false f g = refl
 -- ---- marked places
 
 marked-filter : (k : ℕ) (marks : List Bool) (is : List ℕ)
-    → marked_places k marks is ≡ places_in (filter (λ p. is_marked marks p.1) (numbered k is))
+    → marked_places k marks is ≡ places_in (filter (λ p. is_marked marks p.1) (beside_places k is))
 marked-filter k marks [] = refl
 marked-filter k marks (i ∷ is) = go (is_marked marks i) (marked-filter (suc k) marks is)
   where
     go : (b : Bool) → marked_places (suc k) marks is
-        ≡ places_in (filter (λ p. is_marked marks p.1) (numbered (suc k) is))
+        ≡ places_in (filter (λ p. is_marked marks p.1) (beside_places (suc k) is))
         → cond b (k ∷ marked_places (suc k) marks is) (marked_places (suc k) marks is)
-        ≡ places_in (cond b ((k, i) ∷ filter (λ p. is_marked marks p.1) (numbered (suc k) is))
-        (filter (λ p. is_marked marks p.1) (numbered (suc k) is)))
+        ≡ places_in (cond b ((k, i) ∷ filter (λ p. is_marked marks p.1) (beside_places (suc k) is))
+        (filter (λ p. is_marked marks p.1) (beside_places (suc k) is)))
     go true e = ap (λ l. k ∷ l) e
     go false e = e
 
@@ -110,11 +110,11 @@ module _ (ts : List (Origin ℕ)) (once_in : IsInjective ts) (f : ℕ → Name) 
 
   pub assumptions-found : (is : List ℕ) → IsIn (length ts) is
       → marked_places 0 marks is
-      ≡ places_in (filter (λ p. is_among same p.1 (needed_origins same R D)) (numbered 0 (map at is)))
+      ≡ places_in (filter (λ p. is_among same p.1 (needed_origins same R D)) (beside_places 0 (map at is)))
   assumptions-found is inside =
       marked-filter 0 marks is
       ∙ ap places_in (filter-same (λ p. is_marked marks p.1) (λ p. is_among same (at p.1) (needed_origins same R D))
-      (numbered 0 is) (λ p n. marked-origin p.1 (inside p.1 (numbered-member 0 is p n))))
+      (beside_places 0 is) (λ p n. marked-origin p.1 (inside p.1 (numbered-member 0 is p n))))
       ∙ filter-places at (λ o. is_among same o (needed_origins same R D)) 0 is
 
   -- ---- definitions
@@ -184,7 +184,7 @@ module _ (ts : List (Origin ℕ)) (once_in : IsInjective ts) (f : ℕ → Name) 
 
   pub first-kept : (k : ℕ) (now : List Bool) (seen : List (Origin Name)) (is : List ℕ)
       → ((i : ℕ) → IsMember i is → IsMember i ds)
-      → Agrees now seen → first_places k now is ≡ places_in (kept same (λ p. at p.1) found seen (numbered k is))
+      → Agrees now seen → first_places k now is ≡ places_in (kept same (λ p. at p.1) found seen (beside_places k is))
   first-kept k now seen [] h a = refl
   first-kept k now seen (x ∷ is) h a =
       go (is_marked now x) refl
@@ -200,7 +200,7 @@ module _ (ts : List (Origin ℕ)) (once_in : IsInjective ts) (f : ℕ → Name) 
       (next now now seen x (h x (inl refl)) a a.0 e (λ i n. refl)))
     where
       others : List (ℕ × ℕ)
-      others = kept same (λ p. at p.1) found (at x ∷ seen) (numbered (suc k) is)
+      others = kept same (λ p. at p.1) found (at x ∷ seen) (beside_places (suc k) is)
 
       go : (b : Bool) → is_marked now x ≡ b → first_places (suc k) (set now x false) is ≡ places_in others
           → (is_marked now x ≡ false → first_places (suc k) now is ≡ places_in others)
@@ -212,8 +212,8 @@ module _ (ts : List (Origin ℕ)) (once_in : IsInjective ts) (f : ℕ → Name) 
           passed e ∙ ap (λ c. places_in (cond c ((k, x) ∷ others) others)) (sym e ∙ a.1 x (h x (inl refl)))
 
   pub definitions-found : first_places 0 marks ds
-      ≡ places_in (filter (λ p. is_among same p.1 found) (firsts_by same (λ p. p.1) (numbered 0 (map at ds))))
+      ≡ places_in (filter (λ p. is_among same p.1 found) (firsts_by same (λ p. p.1) (beside_places 0 (map at ds))))
   definitions-found =
       first-kept 0 marks [] ds (λ i n. n) at-first
-      ∙ ap places_in (kept-is same tells (λ p. at p.1) found (numbered 0 ds))
+      ∙ ap places_in (kept-is same tells (λ p. at p.1) found (beside_places 0 ds))
       ∙ firsts-places at (λ o. is_among same o found) 0 ds

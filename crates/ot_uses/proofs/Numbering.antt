@@ -11,7 +11,7 @@ use Rattle.ot_written.proofs.Filters.{filter-to}
 use Rattle.ot_written.proofs.Renaming.{filter-map}
 use Rattle.std.proofs.lemmas.List.{length-map, get_or-map}
 use Rattle.ot_uses.specs.Placing.{picked}
-use Rattle.ot_uses.specs.Used.{numbered, places_in, same}
+use Rattle.ot_uses.specs.Used.{beside_places, places_in, same}
 
 abbrev Placed : Type 0 → Type 0
 Placed X = ℕ × X
@@ -21,7 +21,7 @@ abbrev moved : {X Y : Type 0} → (X → Y) → Placed X → Placed Y
 moved f p = (p.0, f p.1)
 
 numbered-map : {X Y : Type 0} (f : X → Y) (k : ℕ) (xs : List X)
-    → numbered k (map f xs) ≡ map (moved f) (numbered k xs)
+    → beside_places k (map f xs) ≡ map (moved f) (beside_places k xs)
 numbered-map f k [] = refl
 numbered-map f k (x ∷ xs) = ap (λ l. (k, f x) ∷ l) (numbered-map f (suc k) xs)
 
@@ -39,21 +39,21 @@ firsts-map g of (x ∷ xs) =
 
 -- the places of items are those of what they are mapped to
 pub filter-places : {X Y : Type 0} (f : X → Y) (t : Y → Bool) (k : ℕ) (xs : List X)
-    → places_in (filter (λ p. t (f p.1)) (numbered k xs)) ≡ places_in (filter (λ p. t p.1) (numbered k (map f xs)))
+    → places_in (filter (λ p. t (f p.1)) (beside_places k xs)) ≡ places_in (filter (λ p. t p.1) (beside_places k (map f xs)))
 filter-places f t k xs =
     sym (ap (λ l. places_in (filter (λ p. t p.1) l)) (numbered-map f k xs) ∙ ap places_in
-    (filter-map (moved f) (λ p. t p.1) (λ p. t (f p.1)) (λ p. refl) (numbered k xs))
-    ∙ places-map f (filter (λ p. t (f p.1)) (numbered k xs)))
+    (filter-map (moved f) (λ p. t p.1) (λ p. t (f p.1)) (λ p. refl) (beside_places k xs))
+    ∙ places-map f (filter (λ p. t (f p.1)) (beside_places k xs)))
 
 pub firsts-places : {X : Type 0} (f : X → Origin Name) (t : Origin Name → Bool) (k : ℕ) (xs : List X)
-    → places_in (filter (λ p. t (f p.1)) (firsts_by same (λ p. f p.1) (numbered k xs)))
-    ≡ places_in (filter (λ p. t p.1) (firsts_by same (λ p. p.1) (numbered k (map f xs))))
+    → places_in (filter (λ p. t (f p.1)) (firsts_by same (λ p. f p.1) (beside_places k xs)))
+    ≡ places_in (filter (λ p. t p.1) (firsts_by same (λ p. p.1) (beside_places k (map f xs))))
 firsts-places f t k xs =
     sym (ap (λ l. places_in (filter (λ p. t p.1) (firsts_by same (λ p. p.1) l))) (numbered-map f k xs)
-    ∙ ap (λ l. places_in (filter (λ p. t p.1) l)) (firsts-map (moved f) (λ p. p.1) (numbered k xs))
+    ∙ ap (λ l. places_in (filter (λ p. t p.1) l)) (firsts-map (moved f) (λ p. p.1) (beside_places k xs))
     ∙ ap places_in
-    (filter-map (moved f) (λ p. t p.1) (λ p. t (f p.1)) (λ p. refl) (firsts_by same (λ p. f p.1) (numbered k xs)))
-    ∙ places-map f (filter (λ p. t (f p.1)) (firsts_by same (λ p. f p.1) (numbered k xs))))
+    (filter-map (moved f) (λ p. t p.1) (λ p. t (f p.1)) (λ p. refl) (firsts_by same (λ p. f p.1) (beside_places k xs)))
+    ∙ places-map f (filter (λ p. t (f p.1)) (firsts_by same (λ p. f p.1) (beside_places k xs))))
 
 -- ---- what stands at the places
 
@@ -61,26 +61,26 @@ firsts-places f t k xs =
 abbrev pub items_in : {X : Type 0} → List (Placed X) → List X
 items_in = map (λ p. p.1)
 
-items-numbered : {X : Type 0} (k : ℕ) (xs : List X) → items_in (numbered k xs) ≡ xs
+items-numbered : {X : Type 0} (k : ℕ) (xs : List X) → items_in (beside_places k xs) ≡ xs
 items-numbered k [] = refl
 items-numbered k (x ∷ xs) = ap (λ l. x ∷ l) (items-numbered (suc k) xs)
 
 pub items-filter : {X : Type 0} (t : X → Bool) (k : ℕ) (xs : List X)
-    → items_in (filter (λ p. t p.1) (numbered k xs)) ≡ filter t xs
-items-filter t k xs = sym (filter-map (λ p. p.1) t (λ p. t p.1) (λ p. refl) (numbered k xs))
+    → items_in (filter (λ p. t p.1) (beside_places k xs)) ≡ filter t xs
+items-filter t k xs = sym (filter-map (λ p. p.1) t (λ p. t p.1) (λ p. refl) (beside_places k xs))
     ∙ ap (filter t) (items-numbered k xs)
 
 pub items-firsts : {X : Type 0} (of : X → Origin Name) (t : X → Bool) (k : ℕ) (xs : List X)
-    → items_in (filter (λ p. t p.1) (firsts_by same (λ p. of p.1) (numbered k xs))) ≡ filter t (firsts_by same of xs)
+    → items_in (filter (λ p. t p.1) (firsts_by same (λ p. of p.1) (beside_places k xs))) ≡ filter t (firsts_by same of xs)
 items-firsts of t k xs =
-    sym (filter-map (λ p. p.1) t (λ p. t p.1) (λ p. refl) (firsts_by same (λ p. of p.1) (numbered k xs)))
-    ∙ ap (filter t) (sym (firsts-map (λ p. p.1) of (numbered k xs)) ∙ ap (firsts_by same of) (items-numbered k xs))
+    sym (filter-map (λ p. p.1) t (λ p. t p.1) (λ p. refl) (firsts_by same (λ p. of p.1) (beside_places k xs)))
+    ∙ ap (filter t) (sym (firsts-map (λ p. p.1) of (beside_places k xs)) ∙ ap (firsts_by same of) (items-numbered k xs))
 
 -- a member stands at its place
 abbrev IsAt : {X : Type 0} → List X → ℕ → Placed X → Type 0
 IsAt {X} xs k p = (i : ℕ) × (p.0 ≡ i + k) × (i < length xs) × ((d : X) → get_or xs i d ≡ p.1)
 
-numbered-at : {X : Type 0} (k : ℕ) (xs : List X) (p : Placed X) → IsMember p (numbered k xs) → IsAt xs k p
+numbered-at : {X : Type 0} (k : ℕ) (xs : List X) (p : Placed X) → IsMember p (beside_places k xs) → IsAt xs k p
 numbered-at k [] p m = absurd m
 numbered-at k (x ∷ xs) p (inl e) = (
   0,
@@ -92,7 +92,7 @@ numbered-at k (x ∷ xs) p (inr m) =
     let (i, e, h, at) = numbered-at (suc k) xs p m in
     let lt : i < length xs = h in (suc i, e ∙ (let z : i + suc k ≡ suc i + k = omega arith in z), omega arith, at)
 
-pub numbered-member : {X : Type 0} (k : ℕ) (xs : List X) (p : Placed X) → IsMember p (numbered k xs) → IsMember p.1 xs
+pub numbered-member : {X : Type 0} (k : ℕ) (xs : List X) (p : Placed X) → IsMember p (beside_places k xs) → IsMember p.1 xs
 numbered-member k [] p m = absurd m
 numbered-member k (x ∷ xs) p (inl e) = inl (ap (λ q. q.1) e)
 numbered-member k (x ∷ xs) p (inr m) = inr (numbered-member (suc k) xs p m)
@@ -111,7 +111,7 @@ pick-one (x ∷ xs) (suc i) d h = pick-one xs i d (omega arith)
 
 -- of members of the numbered list, the places lead to the items
 module _ {X : Type 0} (xs : List X) (ps : List (Placed X))
-    (part : (p : Placed X) → IsMember p ps → IsMember p (numbered 0 xs)) where
+    (part : (p : Placed X) → IsMember p ps → IsMember p (beside_places 0 xs)) where
   at-place : (p : Placed X) → IsMember p ps → (p.0 < length xs) × ((d : X) → get_or xs p.0 d ≡ p.1)
   at-place p m =
       let (i, e, h, at) = numbered-at 0 xs p (part p m) in

@@ -12,7 +12,7 @@ use Rattle.ot_machine.specs.States.{Given, Made, RunState}
 use Rattle.ot_machine.specs.Rows.{definitions_of}
 use Rattle.ot_machine.specs.Meaning.{origin_of, givens_of, made_of, run_of, IsRun}
 use Rattle.ot_machine.specs.declared.session.Session.{Session}
-use Rattle.ot_uses.specs.Used.{numbered, same, is_assumed, is_used, used_assumptions}
+use Rattle.ot_uses.specs.Used.{beside_places, same, is_assumed, is_used, used_assumptions}
 use Rattle.ot_uses.specs.Used.{used_definitions, assumption_places, definition_places}
 use Rattle.ot_uses.specs.Placing.{picked}
 use Rattle.ot_uses.proofs.Numbering.{places-inside, places-lead, items-filter, items-firsts, firsts-member}
@@ -74,18 +74,18 @@ module _ (s : Session) (run : IsRun s) (o : Origin Name) where
   r = run_of s
 
   abbrev givens : List (ℕ × Given)
-  givens = filter (λ p. is_assumed r o p.1) (numbered 0 r.assumptions)
+  givens = filter (λ p. is_assumed r o p.1) (beside_places 0 r.assumptions)
 
   abbrev mades : List (ℕ × Made)
-  mades = filter (λ p. is_used r o p.1) (firsts_by same (λ p. p.1.origin) (numbered 0 r.definitions))
+  mades = filter (λ p. is_used r o p.1) (firsts_by same (λ p. p.1.origin) (beside_places 0 r.definitions))
 
-  given-part : (p : ℕ × Given) → IsMember p givens → IsMember p (numbered 0 r.assumptions)
-  given-part p m = (filter-to (λ p. is_assumed r o p.1) p (numbered 0 r.assumptions) m).0
+  given-part : (p : ℕ × Given) → IsMember p givens → IsMember p (beside_places 0 r.assumptions)
+  given-part p m = (filter-to (λ p. is_assumed r o p.1) p (beside_places 0 r.assumptions) m).0
 
-  made-part : (p : ℕ × Made) → IsMember p mades → IsMember p (numbered 0 r.definitions)
+  made-part : (p : ℕ × Made) → IsMember p mades → IsMember p (beside_places 0 r.definitions)
   made-part p m =
-      firsts-member (λ p. p.1.origin) p (numbered 0 r.definitions)
-      (filter-to (λ p. is_used r o p.1) p (firsts_by same (λ p. p.1.origin) (numbered 0 r.definitions)) m).0
+      firsts-member (λ p. p.1.origin) p (beside_places 0 r.definitions)
+      (filter-to (λ p. is_used r o p.1) p (firsts_by same (λ p. p.1.origin) (beside_places 0 r.definitions)) m).0
 
   pub assumptions-inside : All (λ i. i < length s.kernel.assumptions) (assumption_places r o)
   assumptions-inside =

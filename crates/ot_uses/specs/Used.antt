@@ -36,19 +36,19 @@ module _ (r : RunState) (o : Origin Name) where
 -- ---- their places in the lists of the run
 
 -- each with its place, the first at k
-abbrev pub numbered : {X : Type 0} → ℕ → List X → List (ℕ × X)
-numbered k [] = []
-numbered k (x ∷ xs) = (k, x) ∷ numbered (suc k) xs
+abbrev pub beside_places : {X : Type 0} → ℕ → List X → List (ℕ × X)
+beside_places k [] = []
+beside_places k (x ∷ xs) = (k, x) ∷ beside_places (suc k) xs
 
 abbrev pub places_in : {X : Type 0} → List (ℕ × X) → List ℕ
 places_in = map (λ p. p.0)
 
 abbrev pub assumption_places : RunState → Origin Name → List ℕ
-assumption_places r o = places_in (filter (λ p. is_assumed r o p.1) (numbered 0 r.assumptions))
+assumption_places r o = places_in (filter (λ p. is_assumed r o p.1) (beside_places 0 r.assumptions))
 
 abbrev pub definition_places : RunState → Origin Name → List ℕ
 definition_places r o =
-    places_in (filter (λ p. is_used r o p.1) (firsts_by same (λ p. p.1.origin) (numbered 0 r.definitions)))
+    places_in (filter (λ p. is_used r o p.1) (firsts_by same (λ p. p.1.origin) (beside_places 0 r.definitions)))
 
 -- ---- a theorem with what it rests on
 

@@ -71,7 +71,7 @@ fn put_export(page: &mut Page, alloc: Global, session: &Session, number: usize, 
     }
     match uses(alloc, session, export.theorem) {
         Ok(used) => put_support(page, alloc, session.kernel(), number, export.th, &used),
-        Err(Memory) => page.stop(PrintFault::Memory),
+        Err(memory) => page.stop(PrintFault::Memory(memory)),
     }
 }
 

@@ -13,16 +13,16 @@ use Rattle.ot_logic.specs.Answers.{◌>>=◌, unless}
 use Rattle.ot_laws.specs.Theorem.{IsTheorem}
 use Rattle.ot_laws.proofs.Tests.{tells_names}
 use Rattle.ot_laws.proofs.Theorems.{defined-theorem}
-use Rattle.ot_records.specs.Tokens as stated
-use Rattle.ot_records.specs.Steps.{is_sequent_within, assumption_step}
-use Rattle.ot_records.specs.State.{kept_once, makes_assumption, makes_definition, makes_result}
-use Rattle.ot_records.proofs.StateSound.{assumption-sound, definition-sound, result-sound}
-use Rattle.ot_nodes.specs.Items.{Item, term_at}
-use Rattle.ot_rules.specs.Limits.{AreWellTyped}
-use Rattle.ot_rules.specs.Statements.{terms_at, sequent_at, HasStatement}
-use Rattle.ot_rules.specs.declared.statement.Statement.{Statement}
-use Rattle.ot_rules.specs.Accepting.{accepted_at, HasAccepted}
-use Rattle.ot_rules.specs.declared.definition.Accepted.{Accepted}
+use Rattle.ot_log_format.specs.Tokens as stated
+use Rattle.ot_log_format.specs.Steps.{is_sequent_within, assumption_step}
+use Rattle.ot_log_format.specs.State.{kept_once, makes_assumption, makes_definition, makes_result}
+use Rattle.ot_log_format.proofs.StateSound.{assumption-sound, definition-sound, result-sound}
+use Rattle.ot_log_nodes.specs.Items.{Item, term_at}
+use Rattle.ot_log_rules.specs.Limits.{AreWellTyped}
+use Rattle.ot_log_rules.specs.Statements.{terms_at, sequent_at, HasStatement}
+use Rattle.ot_log_rules.specs.declared.statement.Statement.{Statement}
+use Rattle.ot_log_rules.specs.Accepting.{accepted_at, HasAccepted}
+use Rattle.ot_log_rules.specs.declared.definition.Accepted.{Accepted}
 use Rattle.ot_verify.specs.Held.{Held, state_of, IsAcceptable, IsLog}
 use Rattle.ot_verify.proofs.Sound.{sound-stated, sound-here, premise-stated, acceptable-stated}
 use Rattle.ot_logic.proofs.Members.{All-from_members, IsMember-map, IsMember-place}

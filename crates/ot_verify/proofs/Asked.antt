@@ -6,11 +6,11 @@ use Rattle.ot_logic.specs.Names.{Name}
 use Rattle.ot_logic.specs.Naming.{names}
 use Rattle.ot_logic.specs.Answers.{◌>>=◌, some_or}
 use Rattle.ot_logic.proofs.Elements.{slice_get-there}
-use Rattle.ot_records.specs.Tokens.{LogFault, BadToken, BadReference, Token}
-use Rattle.ot_records.specs.State.{LogState}
-use Rattle.ot_records.specs.Records.{RecordForm, AskName, AskCount, AskType, AskTerm, AskSequent}
-use Rattle.ot_records.specs.Check.{Within, check, settled, go_on, at_line, answered}
-use Rattle.ot_records.specs.Check.{as_name, as_number, as_earlier}
+use Rattle.ot_log_format.specs.Tokens.{LogFault, BadToken, BadReference, Token}
+use Rattle.ot_log_format.specs.State.{LogState}
+use Rattle.ot_log_format.specs.Records.{RecordForm, AskName, AskCount, AskType, AskTerm, AskSequent}
+use Rattle.ot_log_format.specs.Check.{Within, check, settled, go_on, at_line, answered}
+use Rattle.ot_log_format.specs.Check.{as_name, as_number, as_earlier}
 use Rattle.ot_verify.specs.Taking.{Takes, TakesFrom, ReadsTokens, IsTaken, Rest, fault_of}
 use Rattle.ot_verify.specs.Asking.{outcome_in, GoesOnWith, StopsWith, AnsweredFrom, IsAt}
 use Rattle.ot_verify.specs.declared.reader.Taken.{Taken}
@@ -69,7 +69,7 @@ module _ {A : Type 0} {st : LogState Name} {ask : (A → RecordForm names) → R
   stopped (verify.At line f) o r t = λ first next.
       within first next o ∙ token-stopped (Within first st (ask next)) o r line f t
   stopped verify.ReadFault o r t = tt
-  stopped verify.Memory o r t = tt
+  stopped (verify.Memory memory) o r t = tt
 
   -- ---- over a source
   module _ {X : Type 0} {is : X → A → Type 0} {old new : Reader} {l m : Option (List ℕ)} where

@@ -4,8 +4,9 @@ use Rattle.std.proofs.Common.{◌≡◌, ℕ, suc, List, [], ◌∷◌, ◌++◌
 use Rattle.std.proofs.lemmas.List.{append-nil}
 use Rattle.ot_logic.specs.Names.{Name}
 use Rattle.ot_logic.specs.Naming.{names}
-use Rattle.ot_records.specs.State.{LogState}
-use Rattle.ot_records.specs.Records.{RecordForm, AskCount, ask_each, ask_list}
+use Rattle.ot_logic.specs.RanOut.{ran_out}
+use Rattle.ot_log_format.specs.State.{LogState}
+use Rattle.ot_log_format.specs.Records.{RecordForm, AskCount, ask_each, ask_list}
 use Rattle.ot_verify.specs.Taking.{Rest}
 use Rattle.ot_verify.specs.Asking.{outcome_in, GoesOnWith, StopsWith, AnsweredFrom}
 use Rattle.ot_verify.specs.Asking.{IsValue, AreEach, GoesOnAfter, CollectsFrom}
@@ -49,13 +50,13 @@ module _ {A : Type 0} (st : LogState Name) (ask : (A → RecordForm names) → R
   stops-after (verify.At line f) us k o r g h = λ first next.
       g first next ∙ h first (λ z. ask_each ask k (λ vs. next (us ++ (z ∷ vs))))
   stops-after verify.ReadFault us k o r g h = tt
-  stops-after verify.Memory us k o r g h = tt
+  stops-after (verify.Memory memory) us k o r g h = tt
 
   -- a count that was not read
   stops-count : (e : VerifyFault) (o : Rest) → StopsWith st AskCount e o → StopsWith st (ask_list ask) e o
   stops-count (verify.At line f) o h = λ first next. h first (λ k. ask_each ask k next)
   stops-count verify.ReadFault o h = tt
-  stops-count verify.Memory o h = tt
+  stops-count (verify.Memory memory) o h = tt
 
 -- ---- over a source
 
@@ -122,7 +123,7 @@ module _ {A X : Type 0} {st : LogState Name} (ask : (A → RecordForm names) →
   -- one that was read, and not kept for want of memory
   pub collects-memory : {Y : Type 0} {now : LogState Name} {is is' : X → A → Type 0} {xs : List X} {x : X} {k : ℕ}
       {old mid new : Reader} {l m n : Option (List ℕ)} {these : Y → List A → Type 0} (q : Result Y VerifyFault)
-      → IsErrAnd q (λ f. f ≡ verify.Memory) → CollectsFrom st ask is xs k old mid l m
+      → IsErrAnd q (λ f. f ≡ verify.Memory ran_out) → CollectsFrom st ask is xs k old mid l m
       → AnsweredFrom now ask is' (Ok x) mid new m n → AnsweredFrom st (ask_list ask) these q old new l n
   collects-memory (Ok y) handed c a = absurd handed
   collects-memory (Err f) handed c a = record {
@@ -146,7 +147,7 @@ stops-first : {A B C : Type 0} (st : LogState Name) (ask : (A → RecordForm nam
     → StopsWith st ask e o → StopsWith st (λ next. ask (λ a. also (λ b. next (pair a b)))) e o
 stops-first st ask also pair (verify.At line f) o h = λ first next. h first (λ a. also (λ b. next (pair a b)))
 stops-first st ask also pair verify.ReadFault o h = tt
-stops-first st ask also pair verify.Memory o h = tt
+stops-first st ask also pair (verify.Memory memory) o h = tt
 
 pub first-stop : {A B C X Z : Type 0} {st : LogState Name} {ask : (A → RecordForm names) → RecordForm names}
     (also : (B → RecordForm names) → RecordForm names) (pair : A → B → C) {is : X → A → Type 0}
@@ -169,7 +170,7 @@ stops-second : {A B C : Type 0} (st : LogState Name) (ask : (A → RecordForm na
 stops-second st ask also pair (verify.At line f) a o r k h = λ first next.
     k first (λ a. also (λ b. next (pair a b))) ∙ h first (λ b. next (pair a b))
 stops-second st ask also pair verify.ReadFault a o r k h = tt
-stops-second st ask also pair verify.Memory a o r k h = tt
+stops-second st ask also pair (verify.Memory memory) a o r k h = tt
 
 module _ {A B C X Y Z : Type 0} {st was : LogState Name} {ask : (A → RecordForm names) → RecordForm names}
     {also : (B → RecordForm names) → RecordForm names} (pair : A → B → C)

@@ -6,18 +6,18 @@ use Rattle.ot_logic.specs.Names.{Name}
 use Rattle.ot_logic.specs.Naming.{names}
 use Rattle.ot_logic.specs.Table.{Extends}
 use Rattle.ot_logic.specs.Trees.{Definition}
-use Rattle.ot_records.specs.Tokens as stated
-use Rattle.ot_records.specs.Steps.{Step}
-use Rattle.ot_records.specs.State.{LogState, Change, makes_definition}
-use Rattle.ot_records.proofs.DefinitionSound.{IsAcceptable}
-use Rattle.ot_nodes.specs.Items.{Item, HasTerm, term_at}
-use Rattle.ot_rules.specs.Statements.{sequent_at, terms_at, HasStatement}
-use Rattle.ot_rules.specs.Definitions.{definition_at, HasDefinition, Defines}
-use Rattle.ot_rules.specs.declared.statement.Statement.{Statement}
-use Rattle.ot_rules.specs.declared.statement.StepFault.{StepFault}
-use Rattle.ot_rules.specs.declared.statement.StepFault.TheVariants as step
-use Rattle.ot_rules.specs.declared.definition.Definition as code
-use Rattle.ot_rules.proofs.Staying.{definition-stays}
+use Rattle.ot_log_format.specs.Tokens as stated
+use Rattle.ot_log_format.specs.Steps.{Step}
+use Rattle.ot_log_format.specs.State.{LogState, Change, makes_definition}
+use Rattle.ot_log_format.proofs.DefinitionSound.{IsAcceptable}
+use Rattle.ot_log_nodes.specs.Items.{Item, HasTerm, term_at}
+use Rattle.ot_log_rules.specs.Statements.{sequent_at, terms_at, HasStatement}
+use Rattle.ot_log_rules.specs.Definitions.{definition_at, HasDefinition, Defines}
+use Rattle.ot_log_rules.specs.declared.statement.Statement.{Statement}
+use Rattle.ot_log_rules.specs.declared.statement.StepFault.{StepFault}
+use Rattle.ot_log_rules.specs.declared.statement.StepFault.TheVariants as step
+use Rattle.ot_log_rules.specs.declared.definition.Definition as code
+use Rattle.ot_log_rules.proofs.Staying.{definition-stays}
 use Rattle.ot_verify.specs.Logged.{LogView, MadeBy}
 use Rattle.ot_verify.specs.Held.{state_of, Establishes, AddsDefinition}
 use Rattle.ot_verify.specs.declared.log.Log.TheInside.{Inside}
@@ -33,7 +33,7 @@ made-alike (Ok u) c b old mid new e m = e ∙ m
 made-alike (Err refusals.BadStep) c b old mid new e m = e ∙ m
 made-alike (Err refusals.LogNesting) c b old mid new e m = e ∙ m
 made-alike (Err refusals.NoSuch) c b old mid new e m = m
-made-alike (Err refusals.Memory) c b old mid new e m = tt
+made-alike (Err (refusals.Memory memory)) c b old mid new e m = tt
 
 -- a copy is the same sequent
 module _ (ts : List Item) (q r : Statement) (hyps : r.hyps.items ≡ q.hyps.items) (concl : r.concl ≡ q.concl) where
@@ -59,7 +59,7 @@ made-definition (Err step.BadStep) d case r old mid new e g a =
     subst (λ z. MadeBy r (makes_definition names case) z new.state) e
     (subst (λ z. MadeBy z (makes_definition names case) mid.state new.state)
     (sym a) (ap (λ z. makes_definition names (λ dl. z) mid.state) g))
-made-definition (Err step.Memory) d case r old mid new e g a =
+made-definition (Err (step.Memory memory)) d case r old mid new e g a =
     subst (λ z. MadeBy z (makes_definition names case) old new.state) (sym a) tt
 
 -- what a case gives may be next where the case is sound
@@ -70,7 +70,7 @@ pub establishes : (made : Result (Vec Statement) StepFault) (d : Definition Name
     → Establishes l d made
 establishes (Ok v) d case l g s = (g.0, g.1, acceptable-here l.state.assumptions l.state.definitions d (s d g.2))
 establishes (Err step.BadStep) d case l g s = tt
-establishes (Err step.Memory) d case l g s = tt
+establishes (Err (step.Memory memory)) d case l g s = tt
 
 -- the case, of the definitions that the grown table has, and the definition by that table
 pub defines-grown : (l : Inside) (us : List Item) (e : Extends l.nodes us) (k : IsKept l.nodes l)

@@ -5,10 +5,11 @@ use Rattle.ot_io.specs.Reading.{Reads, HasRead}
 use Rattle.ot_io.proofs.Reading.{Reads-then, Reads-none}
 use Rattle.ot_logic.specs.Names.{Name}
 use Rattle.ot_logic.specs.Naming.{names}
-use Rattle.ot_records.specs.State.{LogState, nothing_made}
-use Rattle.ot_records.specs.Records.{form}
-use Rattle.ot_records.specs.Check.{Outcome, AtFirst, Between, check}
-use Rattle.ot_records.specs.declared.word.RecordWord.{RecordWord}
+use Rattle.ot_logic.specs.RanOut.{ran_out}
+use Rattle.ot_log_format.specs.State.{LogState, nothing_made}
+use Rattle.ot_log_format.specs.Records.{form}
+use Rattle.ot_log_format.specs.Check.{Outcome, AtFirst, Between, check}
+use Rattle.ot_log_format.specs.declared.word.RecordWord.{RecordWord}
 use Rattle.ot_verify.specs.Reading.{log_check}
 use Rattle.ot_verify.specs.Taking.{Rest, rest, ReadsTokens}
 use Rattle.ot_verify.specs.Asking.{outcome_in}
@@ -77,7 +78,7 @@ stops-header : (e : VerifyFault) (out : Outcome Name) (o r : Rest) → out ≡ c
     → Heads (Err e) o r → Verifies (Err e) out
 stops-header (verify.At line fault) out o r p q = p ∙ q
 stops-header verify.ReadFault out o r p q = tt
-stops-header verify.Memory out o r p q = tt
+stops-header (verify.Memory memory) out o r p q = tt
 
 module _ (max : ℕ) {old new : Reader} {all l : Option (List ℕ)} (is : old ≡ first_reader max) where
   -- it was read
@@ -100,14 +101,14 @@ stops-word : (st : LogState Name) (e : VerifyFault) (out : Outcome Name) (o r : 
     → out ≡ check names o.last (Between st) o.tokens → Begins (Err e) o r → Verifies (Err e) out
 stops-word st (verify.At line fault) out o r p q = p ∙ q st
 stops-word st verify.ReadFault out o r p q = tt
-stops-word st verify.Memory out o r p q = tt
+stops-word st (verify.Memory memory) out o r p q = tt
 
 stops-record : (first : ℕ) (w : RecordWord) (st now : LogState Name) (e : VerifyFault) (out : Outcome Name) (o r : Rest)
     → out ≡ outcome_in first st (form names w) o → Recorded (Err e) (form names w) first st now o r
     → Verifies (Err e) out
 stops-record first w st now (verify.At line fault) out o r p q = p ∙ q
 stops-record first w st now verify.ReadFault out o r p q = tt
-stops-record first w st now verify.Memory out o r p q = tt
+stops-record first w st now (verify.Memory memory) out o r p q = tt
 
 module _ {max : ℕ} {st : LogState Name} {old mid : Reader} {all l m : Option (List ℕ)}
     (f : Follows max st old all l) where
@@ -151,9 +152,9 @@ module _ {max : ℕ} {st : LogState Name} {old mid : Reader} {all l m : Option (
 -- ---- what the answer says
 
 -- want of memory before the first byte
-pub none-checked : (max : ℕ) (all : Option (List ℕ)) → Checked max (Err verify.Memory) all all
+pub none-checked : (max : ℕ) (all : Option (List ℕ)) → Checked max (Err (verify.Memory ran_out)) all all
 none-checked max all = record {
   ended = false;
   to_end = λ ok. cc;
-  reads = Reads-none false all (λ x y. Verifies (Err verify.Memory) (log_check max x)) (λ x may. tt);
+  reads = Reads-none false all (λ x y. Verifies (Err (verify.Memory ran_out)) (log_check max x)) (λ x may. tt);
 }

@@ -4,12 +4,12 @@ use Rattle.std.proofs.Common.{◌≡◌, ℕ, List, [], ◌∷◌, map, slice_ge
 use Rattle.std.proofs.lemmas.List.Elements.{All-nil, All-cons}
 use Rattle.ot_logic.specs.Names.{Name}
 use Rattle.ot_logic.specs.Trees.{Ty, MoreTys, Variable, Tm}
-use Rattle.ot_records.specs.Records.{arguments}
-use Rattle.ot_nodes.specs.Items.{Item, HasName, HasType, HasTerm, name_at, type_at, types_at, term_at}
-use Rattle.ot_nodes.specs.Changing.{variable_at, type_map, term_map, HasVariable, HasTypes, HasTerms}
-use Rattle.ot_nodes.specs.declared.node.VariableNode.{VariableNode}
-use Rattle.ot_nodes.proofs.ItemLemmas.{name-is, has-name}
-use Rattle.ot_rules.specs.Definitions.{pairs_at, HasPairs, names_at}
+use Rattle.ot_log_format.specs.Records.{arguments}
+use Rattle.ot_log_nodes.specs.Items.{Item, HasName, HasType, HasTerm, name_at, type_at, types_at, term_at}
+use Rattle.ot_log_nodes.specs.Changing.{variable_at, type_map, term_map, HasVariable, HasTypes, HasTerms}
+use Rattle.ot_log_nodes.specs.declared.node.VariableNode.{VariableNode}
+use Rattle.ot_log_nodes.proofs.ItemLemmas.{name-is, has-name}
+use Rattle.ot_log_rules.specs.Definitions.{pairs_at, HasPairs, names_at}
 use Rattle.ot_verify.specs.Asking.{IsAt, AreEach}
 use Rattle.ot_verify.specs.Logged.{LogView, IsNamed, IsVariable, IsTypePair, IsTermPair, IsConstantPair}
 use Rattle.ot_verify.specs.Finding.{IsFoundVariable, IsFoundTypePair, IsFoundTermPair, IsFoundConstantPair}

@@ -5,12 +5,12 @@ use Rattle.std.proofs.lemmas.Bool.Decides.{eqb_tells}
 use Rattle.ot_logic.specs.Names.{Name}
 use Rattle.ot_logic.specs.Naming.{names}
 use Rattle.ot_logic.specs.Answers.{◌>>=◌, unless, some_or}
-use Rattle.ot_records.specs.Tokens.{LogFault, Token, BadToken, BadHeader, UnknownRecord, LogEnds}
-use Rattle.ot_records.specs.State.{LogState, nothing_made}
-use Rattle.ot_records.specs.Records.{form}
-use Rattle.ot_records.specs.Check.{Place, AtFirst, AtSecond, Between, Stops, check, ended, go_on, token_step, at_line}
-use Rattle.ot_records.specs.Check.{settled, is_first, is_second, as_record}
-use Rattle.ot_records.specs.declared.word.RecordWord.{RecordWord}
+use Rattle.ot_log_format.specs.Tokens.{LogFault, Token, BadToken, BadHeader, UnknownRecord, LogEnds}
+use Rattle.ot_log_format.specs.State.{LogState, nothing_made}
+use Rattle.ot_log_format.specs.Records.{form}
+use Rattle.ot_log_format.specs.Check.{Place, AtFirst, AtSecond, Between, Stops, check, ended, go_on, token_step, at_line}
+use Rattle.ot_log_format.specs.Check.{settled, is_first, is_second, as_record}
+use Rattle.ot_log_format.specs.declared.word.RecordWord.{RecordWord}
 use Rattle.ot_verify.specs.Taking.{Takes, TakesFrom, ReadsTokens, IsTaken, Rest, fault_of}
 use Rattle.ot_verify.specs.Going.{Heads, HeadsFrom, Begins, BeginsFrom}
 use Rattle.ot_verify.specs.declared.reader.Taken.{Taken}
@@ -55,17 +55,17 @@ Comes p o r = check names o.last AtFirst o.tokens ≡ check names r.last p r.tok
 abbrev StopsAt : Place names → VerifyFault → Rest → Type 0
 StopsAt p (verify.At line f) o = check names o.last p o.tokens ≡ Stops line (fault_of f)
 StopsAt p verify.ReadFault o = Unit {0}
-StopsAt p verify.Memory o = Unit {0}
+StopsAt p (verify.Memory memory) o = Unit {0}
 
 stops-here : (p : Place names) (e : VerifyFault) (o r : Rest) → Takes (Err e) o r → StopsAt p e o
 stops-here p (verify.At line f) o r t = token-stopped p o r line f t
 stops-here p verify.ReadFault o r t = tt
-stops-here p verify.Memory o r t = tt
+stops-here p (verify.Memory memory) o r t = tt
 
 heads-stop : (p : Place names) (e : VerifyFault) (o r s : Rest) → Comes p o r → StopsAt p e r → Heads (Err e) o s
 heads-stop p (verify.At line f) o r s c h = c ∙ h
 heads-stop p verify.ReadFault o r s c h = tt
-heads-stop p verify.Memory o r s c h = tt
+heads-stop p (verify.Memory memory) o r s c h = tt
 
 pub starts : {a : Reader} {l : Option (List ℕ)} → ReadsTokens a a l l (Comes AtFirst)
 starts = tokens-none (λ x. refl)
@@ -165,7 +165,7 @@ word-next st o r x z says =
 begins-fault : (e : VerifyFault) (o r : Rest) → Takes (Err e) o r → Begins (Err e) o r
 begins-fault (verify.At line f) o r t = λ st. token-stopped (Between st) o r line f t
 begins-fault verify.ReadFault o r t = tt
-begins-fault verify.Memory o r t = tt
+begins-fault (verify.Memory memory) o r t = tt
 
 module _ {old new : Reader} {l m : Option (List ℕ)} where
   begins-over : (result : Result (Option Taken) VerifyFault) (answer : ℕ → Result (Option RecordWord) VerifyFault)

@@ -1,7 +1,7 @@
 -- What a log is after each addition, over a table that grew.
 use Rattle.std.specs.Prelude.{◌&&◌}
 use Rattle.std.specs.List.{All, list_all}
-use Rattle.std.proofs.Common.{◌≡◌, ℕ, Bool, true, Option, Some, List, [], ◌∷◌, ◌++◌}
+use Rattle.std.proofs.Common.{◌≡◌, ℕ, Bool, true, Some, List, [], ◌∷◌, ◌++◌}
 use Rattle.std.proofs.Common.{map, slice_get, Result, Ok, sym, ap, ◌∙◌, subst, inl, inr}
 use Rattle.std.proofs.lemmas.Bool.{and_parts}
 use Rattle.ot_logic.specs.Names.{Name}
@@ -14,27 +14,27 @@ use Rattle.ot_logic.specs.Answers.{unless}
 use Rattle.ot_laws.specs.Theorem.{IsTheorem}
 use Rattle.ot_laws.proofs.Hypotheses.{IsMember-once_each}
 use Rattle.ot_laws.proofs.Tests.{tells_names}
-use Rattle.ot_records.specs.Tokens as stated
-use Rattle.ot_records.specs.Steps.{is_proposition, is_sequent_within, assumption_step}
-use Rattle.ot_records.specs.State.{LogState, Change, kept_once}
-use Rattle.ot_records.specs.State.{makes_sequent, makes_assumption, makes_definition, makes_result}
-use Rattle.ot_records.proofs.StepSound.{proposition-is}
-use Rattle.ot_nodes.specs.Items.{Item, HasTerm, term_at}
-use Rattle.ot_nodes.specs.Typing.{AreTypings}
-use Rattle.ot_nodes.specs.declared.table.typing.Scope.{Scope}
-use Rattle.ot_nodes.specs.declared.table.typing.Typed.{Typed}
-use Rattle.ot_nodes.proofs.ItemLemmas.{term-stays}
-use Rattle.ot_rules.specs.Limits.{AreWellTyped}
-use Rattle.ot_rules.specs.Statements.{sequent_at, terms_at, HasStatement, Gives}
-use Rattle.ot_rules.specs.Keeping.{AreKeyed}
-use Rattle.ot_rules.specs.Symbols.{IsSignature}
-use Rattle.ot_rules.specs.Definitions.{definition_at, HasDefinition}
-use Rattle.ot_rules.specs.declared.signature.Signature.{Signature}
-use Rattle.ot_rules.specs.Accepting.{accepted_at, HasAccepted}
-use Rattle.ot_rules.specs.declared.definition.Accepted.{Accepted}
-use Rattle.ot_rules.specs.declared.kept.Kept.{Kept}
-use Rattle.ot_rules.specs.declared.statement.Statement.{Statement}
-use Rattle.ot_rules.proofs.Staying.{map-agree, terms-stay, sequent-stays, still-statement}
+use Rattle.ot_log_format.specs.Tokens as stated
+use Rattle.ot_log_format.specs.Steps.{is_proposition, is_sequent_within, assumption_step}
+use Rattle.ot_log_format.specs.State.{LogState, Change, kept_once}
+use Rattle.ot_log_format.specs.State.{makes_sequent, makes_assumption, makes_definition, makes_result}
+use Rattle.ot_log_format.proofs.StepSound.{proposition-is}
+use Rattle.ot_log_nodes.specs.Items.{Item, HasTerm, term_at}
+use Rattle.ot_log_nodes.specs.Typing.{AreTypings}
+use Rattle.ot_log_nodes.specs.declared.table.typing.Scope.{Scope}
+use Rattle.ot_log_nodes.specs.declared.table.typing.Typed.{Typed}
+use Rattle.ot_log_nodes.proofs.ItemLemmas.{term-stays}
+use Rattle.ot_log_rules.specs.Limits.{AreWellTyped}
+use Rattle.ot_log_rules.specs.Statements.{sequent_at, terms_at, HasStatement, Gives}
+use Rattle.ot_log_rules.specs.Keeping.{AreKeyed}
+use Rattle.ot_log_rules.specs.Symbols.{IsSignature}
+use Rattle.ot_log_rules.specs.Definitions.{definition_at, HasDefinition}
+use Rattle.ot_log_rules.specs.declared.signature.Signature.{Signature}
+use Rattle.ot_log_rules.specs.Accepting.{accepted_at, HasAccepted}
+use Rattle.ot_log_rules.specs.declared.definition.Accepted.{Accepted}
+use Rattle.ot_log_rules.specs.declared.kept.Kept.{Kept}
+use Rattle.ot_log_rules.specs.declared.statement.Statement.{Statement}
+use Rattle.ot_log_rules.proofs.Staying.{map-agree, terms-stay, sequent-stays, still-statement}
 use Rattle.ot_verify.specs.Logged.{LogView, MadeBy}
 use Rattle.ot_verify.specs.Held.{Held, state_of, view_of, IsAcceptable, IsWhole, Supports, Establishes}
 use Rattle.ot_verify.specs.declared.log.Log.TheInside.{Inside}
@@ -74,7 +74,7 @@ module _ (l : Inside) (k : IsKept l.nodes l) (now : LogView) (is : view_of l.nod
           (state_of l.nodes (held_of l)).definitions)
           (sym (sequent-stays l.nodes us e q here.0)) here.1)
 
-      pub statement-kept : (es : List (Scope × Option Typed)) (xs : List Statement) → AreTypings us es
+      pub statement-kept : (es : List (Scope × Typed)) (xs : List Statement) → AreTypings us es
           → xs ≡ l.sequents.items ++ q ∷ []
           → IsWhole us (record (held_of l) { sequents = xs }) es l.signature l.assumptions l.results
       statement-kept es xs t p =
@@ -109,7 +109,7 @@ module _ (l : Inside) (k : IsKept l.nodes l) (now : LogView) (is : view_of l.nod
           ∙ ap (λ zs. Ok (state_of us (record (held_of l) { sequents = zs }))) (sym x))
 
 -- ---- the same lists, and what is kept beside them anew
-pub whole-same : (l : Inside) (us : List Item) (h : Held) (es : List (Scope × Option Typed)) (s : Signature)
+pub whole-same : (l : Inside) (us : List Item) (h : Held) (es : List (Scope × Typed)) (s : Signature)
     (al ql : Kept)
     → h ≡ held_of l → IsKept us l → AreTypings us es → IsSignature us (map (accepted_at us) l.definitions.items) s
     → AreKeyed al
@@ -182,7 +182,7 @@ module _ (l : Inside) (k : IsKept l.nodes l) (now : LogView) (is : view_of l.nod
       module _ (al : Kept) (xs : List Statement) (t : b ≡ true) (x : xs ≡ l.sequents.items ++ q ∷ [])
           (once : map (sequent_at us) al.statements.items
           ≡ kept_once names (map (sequent_at us) l.assumptions.statements.items) (sequent_at us q)) where
-        pub assumption-kept : (es : List (Scope × Option Typed)) → AreTypings us es → AreKeyed al
+        pub assumption-kept : (es : List (Scope × Typed)) → AreTypings us es → AreKeyed al
             → All (HasStatement us) al.statements.items
             → IsWhole us (record (held_of l) { sequents = xs; assumptions = al.statements.items }) es l.signature al
             l.results
@@ -281,7 +281,7 @@ module _ (l : Inside) (k : IsKept l.nodes l) (now : LogView) (is : view_of l.nod
       module _ (t : b ≡ true) (qs : List Statement)
           (same' : map (sequent_at us) qs ≡ map (sequent_at us) a.theorems.items) (xs : List Statement)
           (ds : List Accepted) (x : xs ≡ l.sequents.items ++ qs) (y : ds ≡ l.definitions.items ++ a ∷ []) where
-        pub definition-kept : (es : List (Scope × Option Typed)) (s : Signature) → AreTypings us es
+        pub definition-kept : (es : List (Scope × Typed)) (s : Signature) → AreTypings us es
             → All (HasStatement us) qs
             → IsSignature us (map (accepted_at us) l.definitions.items ++ accepted_at us a ∷ []) s
             → IsWhole us (record (held_of l) { sequents = xs; definitions = ds }) es s l.assumptions l.results

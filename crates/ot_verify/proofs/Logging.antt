@@ -12,28 +12,28 @@ use Rattle.ot_logic.specs.Hol.{theorems}
 use Rattle.ot_logic.specs.Answers.{◌>>=◌, unless}
 use Rattle.ot_logic.specs.Table.{Extends}
 use Rattle.ot_laws.specs.Theorem.{IsTheorem}
-use Rattle.ot_records.specs.Tokens as stated
-use Rattle.ot_records.specs.Steps.{Step, is_sequent_within}
-use Rattle.ot_records.specs.State.{LogState, nothing_made, makes_type, makes_term, makes_sequent}
-use Rattle.ot_records.proofs.StateSound.{nothing-sound}
-use Rattle.ot_nodes.specs.Items.{Item, IsName, HasType, HasTerm, type_at, term_at}
-use Rattle.ot_nodes.specs.Typing.{AreTypings}
-use Rattle.ot_nodes.specs.declared.table.typing.Scope.{Scope}
-use Rattle.ot_nodes.specs.declared.table.typing.Typed.{Typed}
-use Rattle.ot_nodes.proofs.TypingLemmas.{typings-grown}
-use Rattle.ot_nodes.proofs.ItemLemmas.{type-stays, term-stays, still-type, still-term}
-use Rattle.ot_rules.specs.Statements.{sequent_at, HasStatement, Gives}
-use Rattle.ot_rules.specs.declared.statement.Statement.{Statement}
-use Rattle.ot_rules.specs.declared.statement.StepFault.{StepFault}
-use Rattle.ot_rules.specs.declared.statement.StepFault.TheVariants as step
-use Rattle.ot_rules.specs.Accepting.{accepted_at, HasAccepted}
-use Rattle.ot_rules.specs.declared.definition.Accepted.{Accepted}
-use Rattle.ot_rules.specs.Symbols.{IsSignature}
-use Rattle.ot_rules.specs.Keeping.{AreKeyed}
-use Rattle.ot_rules.specs.declared.signature.Signature.{Signature}
-use Rattle.ot_rules.specs.declared.kept.Kept.{Kept}
-use Rattle.ot_rules.proofs.Freshness.{signature-grown}
-use Rattle.ot_rules.proofs.Staying.{map-agree, sequent-stays, still-statement, definition-stays, still-definition}
+use Rattle.ot_log_format.specs.Tokens as stated
+use Rattle.ot_log_format.specs.Steps.{Step, is_sequent_within}
+use Rattle.ot_log_format.specs.State.{LogState, nothing_made, makes_type, makes_term, makes_sequent}
+use Rattle.ot_log_format.proofs.StateSound.{nothing-sound}
+use Rattle.ot_log_nodes.specs.Items.{Item, IsName, HasType, HasTerm, type_at, term_at}
+use Rattle.ot_log_nodes.specs.Typing.{AreTypings}
+use Rattle.ot_log_nodes.specs.declared.table.typing.Scope.{Scope}
+use Rattle.ot_log_nodes.specs.declared.table.typing.Typed.{Typed}
+use Rattle.ot_log_nodes.proofs.TypingLemmas.{typings-grown}
+use Rattle.ot_log_nodes.proofs.ItemLemmas.{type-stays, term-stays, still-type, still-term}
+use Rattle.ot_log_rules.specs.Statements.{sequent_at, HasStatement, Gives}
+use Rattle.ot_log_rules.specs.declared.statement.Statement.{Statement}
+use Rattle.ot_log_rules.specs.declared.statement.StepFault.{StepFault}
+use Rattle.ot_log_rules.specs.declared.statement.StepFault.TheVariants as step
+use Rattle.ot_log_rules.specs.Accepting.{accepted_at, HasAccepted}
+use Rattle.ot_log_rules.specs.declared.definition.Accepted.{Accepted}
+use Rattle.ot_log_rules.specs.Symbols.{IsSignature}
+use Rattle.ot_log_rules.specs.Keeping.{AreKeyed}
+use Rattle.ot_log_rules.specs.declared.signature.Signature.{Signature}
+use Rattle.ot_log_rules.specs.declared.kept.Kept.{Kept}
+use Rattle.ot_log_rules.proofs.Freshness.{signature-grown}
+use Rattle.ot_log_rules.proofs.Staying.{map-agree, sequent-stays, still-statement, definition-stays, still-definition}
 use Rattle.ot_verify.specs.Logged.{LogView, IsNamed, MeetsNames, MadeBy}
 use Rattle.ot_verify.specs.Held.{Held, state_of, view_of, IsSound, IsLog, IsWhole, Supports, AddsSequent}
 use Rattle.ot_verify.proofs.Sound.{sound-here}
@@ -165,7 +165,7 @@ made-sequent (Ok q) case r old mid new e g a =
     (subst (λ z. MadeBy r (makes_sequent names (Ok (sequent_at mid.items q))) z new.state) e a)
 made-sequent (Err step.BadStep) case r old mid new e g a =
     subst (λ z. MadeBy z (makes_sequent names case) old new.state) (sym a) (ap (λ z. makes_sequent names z old) g)
-made-sequent (Err step.Memory) case r old mid new e g a =
+made-sequent (Err (step.Memory memory)) case r old mid new e g a =
     subst (λ z. MadeBy z (makes_sequent names case) old new.state) (sym a) tt
 
 -- a sequent that a case gives follows where the case is sound
@@ -173,7 +173,7 @@ pub supported : (made : Result Statement StepFault) (case : Step names) (l : Log
     → ((q : Sequent Name) → case ≡ Ok q → IsTheorem names l.state.assumptions l.state.definitions q) → Supports l made
 supported (Ok q) case l g s = (g.0, s (sequent_at l.items q) g.1)
 supported (Err step.BadStep) case l g s = tt
-supported (Err step.Memory) case l g s = tt
+supported (Err (step.Memory memory)) case l g s = tt
 
 -- ---- the log of the code, whose table grows
 abbrev pub held_of : Inside → Held
@@ -202,7 +202,7 @@ log-kept l us e k = record {
 }
 
 -- with further typings
-pub with-typings : (l : Inside) (us : List Item) (es : List (Scope × Option Typed)) → IsKept us l → AreTypings us es
+pub with-typings : (l : Inside) (us : List Item) (es : List (Scope × Typed)) → IsKept us l → AreTypings us es
     → IsWhole us (held_of l) es l.signature l.assumptions l.results
 with-typings l us es k t = record {
   log = k.log;
@@ -297,7 +297,7 @@ theorem-now l k i q h =
 abbrev pub nothing_held : Held
 nothing_held = record { types = []; terms = []; sequents = []; assumptions = []; definitions = []; results = [] }
 
-pub nothing-whole : (ts : List Item) (h : Held) (es : List (Scope × Option Typed)) (s : Signature) (al ql : Kept)
+pub nothing-whole : (ts : List Item) (h : Held) (es : List (Scope × Typed)) (s : Signature) (al ql : Kept)
     → h ≡ nothing_held → AreTypings ts es → IsSignature ts [] s → AreKeyed al → AreKeyed ql → IsWhole ts h es s al ql
 nothing-whole ts h es s al ql e t g a q = record {
   log = subst (IsLog ts) (sym e) (record {

@@ -2,9 +2,10 @@
 use Rattle.std.specs.Prelude.{Ok, Err, Option, Some}
 use Rattle.std.proofs.Common.{ℕ, List, ap, ◌∙◌}
 use Rattle.ot_logic.specs.Names.{Name}
-use Rattle.ot_records.specs.State.{LogState}
-use Rattle.ot_records.specs.Records.{AskName}
-use Rattle.ot_nodes.specs.Items.{NameItem}
+use Rattle.ot_logic.specs.RanOut.{ran_out}
+use Rattle.ot_log_format.specs.State.{LogState}
+use Rattle.ot_log_format.specs.Records.{AskName}
+use Rattle.ot_log_nodes.specs.Items.{NameItem}
 use Rattle.ot_verify.specs.Asking.{AnsweredFrom, IsValue}
 use Rattle.ot_verify.specs.Logged.{LogView, IsNamed}
 use Rattle.ot_verify.specs.declared.reader.Reader.{Reader}
@@ -24,5 +25,5 @@ module _ {st : LogState Name} (view : LogView) {old new : Reader} {l m : Option 
   numbered-stop a = record { answer = tt; stop = a.stop }
 
   pub numbered-memory : {n : Name} → AnsweredFrom st AskName IsValue (Ok n) old new l m
-      → AnsweredFrom {X = ℕ} st AskName (IsNamed view) (Err verify.Memory) old new l m
+      → AnsweredFrom {X = ℕ} st AskName (IsNamed view) (Err (verify.Memory ran_out)) old new l m
   numbered-memory a = record { answer = tt; stop = tokens-map a.answer.2 (λ o r h. tt) }

@@ -3,8 +3,8 @@ use Rattle.std.specs.Prelude.{Result, Ok, Err, Some, None}
 use Rattle.std.proofs.Common.{◌≡◌, ℕ, ap, sym, ◌∙◌}
 use Rattle.ot_logic.specs.Names.{Name}
 use Rattle.ot_logic.specs.Naming.{names}
-use Rattle.ot_records.specs.Tokens.{LogFault, LogEnds, Token}
-use Rattle.ot_records.specs.Check.{Place, Stops, check, ended, go_on, token_step}
+use Rattle.ot_log_format.specs.Tokens.{LogFault, LogEnds, Token}
+use Rattle.ot_log_format.specs.Check.{Place, Stops, check, ended, go_on, token_step}
 use Rattle.ot_verify.specs.Taking.{Rest, Takes, IsTaken, fault_of}
 use Rattle.ot_verify.specs.declared.reader.Taken.{Taken}
 use Rattle.ot_verify.specs.declared.fault.LogFault as code

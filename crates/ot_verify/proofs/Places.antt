@@ -5,7 +5,7 @@ use Rattle.std.proofs.Common.{List, [], ◌∷◌, ◌++◌, length, get_or, tak
 use Rattle.std.proofs.lemmas.List.{take_more}
 use Rattle.ot_logic.specs.Names.{Name}
 use Rattle.ot_logic.specs.Naming.{names}
-use Rattle.ot_records.specs.State.{LogState, Change}
+use Rattle.ot_log_format.specs.State.{LogState, Change}
 use Rattle.ot_verify.specs.Asking.{AreEach}
 use Rattle.ot_verify.specs.Finding.{FindsEach}
 use Rattle.ot_verify.specs.Logged.{MadeBy}
@@ -45,6 +45,6 @@ pub missed : {X Y : Type 0} (is : X → Y → Type 0) (e : Refusal) (xs : List X
     → IsErrAnd r (λ x. x ≡ e) → FindsEach is (Err e) xs → (ys : List Y) × AreEach is xs ys → MadeBy r c old new
 missed is e xs c old new (Ok u) h f g = absurd h
 missed is refusals.NoSuch xs c old new (Err x) h f g = absurd (f g.0 g.1)
-missed is refusals.Memory xs c old new (Err x) h f g = subst (λ z. MadeBy (Err z) c old new) (sym h) tt
+missed is (refusals.Memory memory) xs c old new (Err x) h f g = subst (λ z. MadeBy (Err z) c old new) (sym h) tt
 missed is refusals.BadStep xs c old new (Err x) h f g = absurd f
 missed is refusals.LogNesting xs c old new (Err x) h f g = absurd f

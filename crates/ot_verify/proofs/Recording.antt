@@ -4,10 +4,10 @@ use Rattle.std.proofs.Common.{◌≡◌, ℕ, List, sym, ap, subst, ◌∙◌}
 use Rattle.ot_logic.specs.Names.{Name}
 use Rattle.ot_logic.specs.Naming.{names}
 use Rattle.ot_logic.specs.Answers.{◌>>=◌}
-use Rattle.ot_records.specs.Tokens as stated
-use Rattle.ot_records.specs.State.{LogState, Change}
-use Rattle.ot_records.specs.Records.{RecordForm, Makes}
-use Rattle.ot_records.specs.Check.{Between, Stops, at_line, go_on, check}
+use Rattle.ot_log_format.specs.Tokens as stated
+use Rattle.ot_log_format.specs.State.{LogState, Change}
+use Rattle.ot_log_format.specs.Records.{RecordForm, Makes}
+use Rattle.ot_log_format.specs.Check.{Between, Stops, at_line, go_on, check}
 use Rattle.ot_verify.specs.Taking.{Rest}
 use Rattle.ot_verify.specs.Asking.{outcome_in, StopsWith, AnsweredFrom}
 use Rattle.ot_verify.specs.Logged.{MadeBy, settled_at, Recorded, RecordedFrom}
@@ -26,14 +26,14 @@ recorded-on : (q : Result (Unit {0}) VerifyFault) (f g : RecordForm names)
 recorded-on (Ok u) f g first st now old mid new e h = e ∙ h
 recorded-on (Err (verify.At line fault)) f g first st now old mid new e h = e ∙ h
 recorded-on (Err verify.ReadFault) f g first st now old mid new e h = tt
-recorded-on (Err verify.Memory) f g first st now old mid new e h = tt
+recorded-on (Err (verify.Memory memory)) f g first st now old mid new e h = tt
 
 stops-record : {A : Type 0} (st now : LogState Name) (ask : (A → RecordForm names) → RecordForm names)
     (e : VerifyFault) (next : A → RecordForm names) (first : ℕ) (o r : Rest)
     → StopsWith st ask e o → Recorded (Err e) (ask next) first st now o r
 stops-record st now ask (verify.At line fault) next first o r a = a first next
 stops-record st now ask verify.ReadFault next first o r a = tt
-stops-record st now ask verify.Memory next first o r a = tt
+stops-record st now ask (verify.Memory memory) next first o r a = tt
 
 module _ {A X : Type 0} {st was now : LogState Name} {ask : (A → RecordForm names) → RecordForm names}
     {is : X → A → Type 0} {first : ℕ} (same : st ≡ was) (next : A → RecordForm names) where
@@ -78,7 +78,7 @@ made-here change first st now (Ok u) r m = makes-ok change first st now r m
 made-here change first st now (Err refusals.BadStep) r m = makes-err change first st stated.BadStep r m
 made-here change first st now (Err refusals.LogNesting) r m = makes-err change first st stated.LogNesting r m
 made-here change first st now (Err refusals.NoSuch) r m = absurd m
-made-here change first st now (Err refusals.Memory) r m = tt
+made-here change first st now (Err (refusals.Memory memory)) r m = tt
 
 -- both answers of a record
 module _ {change : Change names} {first : ℕ} {st was now : LogState Name} {r : Reader} {l : Option (List ℕ)}

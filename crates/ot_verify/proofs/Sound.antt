@@ -4,9 +4,9 @@ use Rattle.ot_logic.specs.Names.{Name}
 use Rattle.ot_logic.specs.Naming.{names}
 use Rattle.ot_logic.specs.Trees.{Sequent, Definition, ConDef, ListDef, TyDef}
 use Rattle.ot_laws.proofs.Definitions as laws
-use Rattle.ot_records.specs.State.{LogState}
-use Rattle.ot_records.proofs.StateSound as records
-use Rattle.ot_records.proofs.DefinitionSound as definitions
+use Rattle.ot_log_format.specs.State.{LogState}
+use Rattle.ot_log_format.proofs.StateSound as records
+use Rattle.ot_log_format.proofs.DefinitionSound as definitions
 use Rattle.ot_verify.specs.Held.{IsSound, HasPremise, IsAcceptable}
 
 pub sound-stated : (st : LogState Name) → IsSound st → records.IsSound names st

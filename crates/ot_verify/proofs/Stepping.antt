@@ -6,12 +6,12 @@ use Rattle.ot_logic.specs.Naming.{names}
 use Rattle.ot_logic.specs.Trees.{Tm, Sequent, Definition}
 use Rattle.ot_logic.specs.Table.{Extends}
 use Rattle.ot_laws.specs.Theorem.{IsTheorem}
-use Rattle.ot_records.specs.Steps.{Step}
-use Rattle.ot_records.specs.State.{makes_sequent}
-use Rattle.ot_nodes.specs.Items.{Item, term_at}
-use Rattle.ot_rules.specs.Statements.{sequent_at, Gives}
-use Rattle.ot_rules.specs.declared.statement.Statement.{Statement}
-use Rattle.ot_rules.specs.declared.statement.StepFault.{StepFault}
+use Rattle.ot_log_format.specs.Steps.{Step}
+use Rattle.ot_log_format.specs.State.{makes_sequent}
+use Rattle.ot_log_nodes.specs.Items.{Item, term_at}
+use Rattle.ot_log_rules.specs.Statements.{sequent_at, Gives}
+use Rattle.ot_log_rules.specs.declared.statement.Statement.{Statement}
+use Rattle.ot_log_rules.specs.declared.statement.StepFault.{StepFault}
 use Rattle.ot_verify.specs.Logged.{LogView, MadeBy}
 use Rattle.ot_verify.specs.Held.{view_of, Supports, AddsSequent}
 use Rattle.ot_verify.specs.declared.log.Log.TheInside.{Inside}

@@ -2,9 +2,9 @@
 use Rattle.std.specs.Prelude.{◌≡◌, ℕ, List, [], ◌∷◌, ◌++◌, Result, IfOk, IfErr, Option, Some, slice_get}
 use Rattle.ot_logic.specs.Names.{Name}
 use Rattle.ot_logic.specs.Naming.{names}
-use Rattle.ot_records.specs.State.{LogState}
-use Rattle.ot_records.specs.Records.{RecordForm, ask_each, ask_list}
-use Rattle.ot_records.specs.Check.{Outcome, Stops, settled, go_on, check}
+use Rattle.ot_log_format.specs.State.{LogState}
+use Rattle.ot_log_format.specs.Records.{RecordForm, ask_each, ask_list}
+use Rattle.ot_log_format.specs.Check.{Outcome, Stops, settled, go_on, check}
 use Rattle.ot_verify.specs.Taking.{fault_of, Rest, ReadsTokens}
 use Rattle.ot_verify.specs.declared.reader.Reader.{Reader}
 use Rattle.ot_verify.specs.declared.fault.VerifyFault.{VerifyFault}
@@ -26,7 +26,7 @@ abbrev pub StopsWith : {A : Type 0} → LogState Name → ((A → RecordForm nam
 StopsWith {A} st ask (verify.At line f) old =
     (first : ℕ) (next : A → RecordForm names) → outcome_in first st (ask next) old ≡ Stops line (fault_of f)
 StopsWith st ask verify.ReadFault old = Unit {0}
-StopsWith st ask verify.Memory old = Unit {0}
+StopsWith st ask (verify.Memory memory) old = Unit {0}
 
 -- what was asked for was read, and the record goes on with it; or the check stops. What was read is the same whatever
 -- may follow

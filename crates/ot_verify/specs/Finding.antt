@@ -1,8 +1,8 @@
 -- What the numbers that a record names stand for.
 use Rattle.std.specs.Prelude.{◌≡◌, ℕ, List, Result, Ok, Err, Option, Some, None, slice_get}
 use Rattle.std.specs.Global.{Vec}
-use Rattle.ot_nodes.specs.Items.{Item, HasName}
-use Rattle.ot_nodes.specs.declared.node.VariableNode.{VariableNode}
+use Rattle.ot_log_nodes.specs.Items.{Item, HasName}
+use Rattle.ot_log_nodes.specs.declared.node.VariableNode.{VariableNode}
 use Rattle.ot_verify.specs.Asking.{AreEach}
 use Rattle.ot_verify.specs.declared.operand.NamedType.{NamedType}
 use Rattle.ot_verify.specs.declared.operand.TermPair.{TermPair}
@@ -19,7 +19,7 @@ Finds {X} {Y} is None x = (y : Y) → ¬ is x y
 abbrev pub FindsEach : {X Y : Type 0} → (X → Y → Type 0) → Result (Vec Y) Refusal → List X → Type 0
 FindsEach is (Ok v) xs = AreEach is xs v.items
 FindsEach {X} {Y} is (Err refusals.NoSuch) xs = (ys : List Y) → ¬ AreEach is xs ys
-FindsEach is (Err refusals.Memory) xs = Unit {0}
+FindsEach is (Err (refusals.Memory memory)) xs = Unit {0}
 FindsEach is (Err refusals.BadStep) xs = ⊥
 FindsEach is (Err refusals.LogNesting) xs = ⊥
 

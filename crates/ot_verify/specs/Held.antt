@@ -1,24 +1,24 @@
 -- What the tables of a log hold.
-use Rattle.std.specs.Prelude.{◌≡◌, ℕ, List, map, Option, Result, Ok, Err}
+use Rattle.std.specs.Prelude.{◌≡◌, ℕ, List, map, Result, Ok, Err}
 use Rattle.std.specs.List.{All}
 use Rattle.ot_logic.specs.Names.{Name}
 use Rattle.ot_logic.specs.Naming.{names}
 use Rattle.ot_laws.specs.Theorem.{IsTheorem}
-use Rattle.ot_records.specs.State.{LogState, makes_sequent, makes_definition}
-use Rattle.ot_nodes.specs.Items.{Item, HasType, HasTerm, type_at, term_at}
-use Rattle.ot_rules.specs.Statements.{sequent_at, HasStatement}
-use Rattle.ot_rules.specs.Accepting.{accepted_at, HasAccepted}
-use Rattle.ot_rules.specs.declared.definition.Accepted.{Accepted}
-use Rattle.ot_rules.specs.Symbols.{IsSignature}
-use Rattle.ot_rules.specs.Keeping.{AreKeyed}
-use Rattle.ot_rules.specs.declared.signature.Signature.{Signature}
-use Rattle.ot_rules.specs.declared.kept.Kept.{Kept}
-use Rattle.ot_nodes.specs.Typing.{AreTypings}
-use Rattle.ot_nodes.specs.declared.table.typing.Scope.{Scope}
-use Rattle.ot_nodes.specs.declared.table.typing.Typed.{Typed}
-use Rattle.ot_rules.specs.declared.statement.Statement.{Statement}
-use Rattle.ot_rules.specs.declared.statement.StepFault.{StepFault}
-use Rattle.ot_rules.specs.declared.statement.StepFault.TheVariants as step
+use Rattle.ot_log_format.specs.State.{LogState, makes_sequent, makes_definition}
+use Rattle.ot_log_nodes.specs.Items.{Item, HasType, HasTerm, type_at, term_at}
+use Rattle.ot_log_rules.specs.Statements.{sequent_at, HasStatement}
+use Rattle.ot_log_rules.specs.Accepting.{accepted_at, HasAccepted}
+use Rattle.ot_log_rules.specs.declared.definition.Accepted.{Accepted}
+use Rattle.ot_log_rules.specs.Symbols.{IsSignature}
+use Rattle.ot_log_rules.specs.Keeping.{AreKeyed}
+use Rattle.ot_log_rules.specs.declared.signature.Signature.{Signature}
+use Rattle.ot_log_rules.specs.declared.kept.Kept.{Kept}
+use Rattle.ot_log_nodes.specs.Typing.{AreTypings}
+use Rattle.ot_log_nodes.specs.declared.table.typing.Scope.{Scope}
+use Rattle.ot_log_nodes.specs.declared.table.typing.Typed.{Typed}
+use Rattle.ot_log_rules.specs.declared.statement.Statement.{Statement}
+use Rattle.ot_log_rules.specs.declared.statement.StepFault.{StepFault}
+use Rattle.ot_log_rules.specs.declared.statement.StepFault.TheVariants as step
 use Rattle.std.specs.Global.{Vec}
 use Rattle.ot_logic.specs.Lists.{IsMember, AreDistinct}
 use Rattle.ot_logic.specs.Trees.{Sequent, Definition, ConDef, ListDef, TyDef}
@@ -79,7 +79,7 @@ pub record IsLog (ts : List Item) (h : Held) : Type 0 where
   pub sound : IsSound (state_of ts h)
 
 -- and what is kept beside: types of terms, the symbols of the definitions, keys of assumptions and results
-pub record IsWhole (ts : List Item) (h : Held) (es : List (Scope × Option Typed)) (s : Signature)
+pub record IsWhole (ts : List Item) (h : Held) (es : List (Scope × Typed)) (s : Signature)
     (al ql : Kept) : Type 0 where
   pub log : IsLog ts h
   pub typings : AreTypings ts es
@@ -96,7 +96,7 @@ Supports l (Err e) = Unit {0}
 -- the refusal of a step
 abbrev pub of_step : StepFault → Refusal
 of_step step.BadStep = refusals.BadStep
-of_step step.Memory = refusals.Memory
+of_step (step.Memory memory) = refusals.Memory memory
 
 -- the sequent was added, within the limit; a refusal stays
 abbrev pub AddsSequent : Result (Unit {0}) Refusal → Result Statement StepFault → LogView → LogView → Type 0

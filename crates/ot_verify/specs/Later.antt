@@ -2,7 +2,7 @@
 use Rattle.std.proofs.Common.{ℕ, slice_get, ap, ◌∙◌}
 use Rattle.ot_logic.specs.Names.{Name}
 use Rattle.ot_logic.specs.Trees.{Ty, Tm, Variable}
-use Rattle.ot_records.specs.State.{LogState}
+use Rattle.ot_log_format.specs.State.{LogState}
 use Rattle.ot_verify.specs.Asking.{IsAt}
 use Rattle.ot_verify.specs.Logged.{LogView, IsNamed, IsVariable, IsTypePair, IsTermPair, IsConstantPair, MeetsNames}
 use Rattle.ot_verify.specs.declared.operand.NamedType.{NamedType}

@@ -2,7 +2,7 @@
 use Rattle.std.specs.Prelude.{◌≡◌, ℕ, List, Result, Ok, Err, Option, Some, slice_get, refl}
 use Rattle.std.specs.Coded.{Coded, code_by, coded×, coded_list}
 use Rattle.ot_logic.specs.Table.{Extends}
-use Rattle.ot_nodes.specs.Items.{Item, coded_item, IsName}
+use Rattle.ot_log_nodes.specs.Items.{Item, coded_item, IsName}
 use Rattle.ot_logic.specs.Trees.{Ty, Variable, Tm, Sequent, Definition}
 use Rattle.ot_verify.specs.declared.operand.NamedType.{NamedType}
 use Rattle.ot_verify.specs.declared.operand.TermPair.{TermPair}
@@ -10,10 +10,10 @@ use Rattle.ot_verify.specs.declared.operand.ConstantPair.{ConstantPair}
 use Rattle.ot_logic.specs.Codes.{coded_name, coded_ty, coded_tm, coded_sequent, coded_definition}
 use Rattle.ot_logic.specs.Names.{Name}
 use Rattle.ot_logic.specs.Naming.{names}
-use Rattle.ot_records.specs.Tokens as stated
-use Rattle.ot_records.specs.State.{LogState, Change}
-use Rattle.ot_records.specs.Records.{RecordForm}
-use Rattle.ot_records.specs.Check.{Stops, Between, check}
+use Rattle.ot_log_format.specs.Tokens as stated
+use Rattle.ot_log_format.specs.State.{LogState, Change}
+use Rattle.ot_log_format.specs.Records.{RecordForm}
+use Rattle.ot_log_format.specs.Check.{Stops, Between, check}
 use Rattle.ot_verify.specs.Taking.{fault_of, Rest, ReadsTokens}
 use Rattle.ot_verify.specs.Asking.{outcome_in}
 use Rattle.ot_verify.specs.declared.reader.Reader.{Reader}
@@ -81,14 +81,14 @@ MadeBy (Ok u) change old new = change old ≡ Ok new
 MadeBy (Err refusals.BadStep) change old new = change old ≡ Err stated.BadStep
 MadeBy (Err refusals.LogNesting) change old new = change old ≡ Err stated.LogNesting
 MadeBy (Err refusals.NoSuch) change old new = ⊥
-MadeBy (Err refusals.Memory) change old new = Unit {0}
+MadeBy (Err (refusals.Memory memory)) change old new = Unit {0}
 
 -- the refusal of the record that began at this line
 abbrev pub refused : ℕ → Refusal → VerifyFault
 refused first refusals.BadStep = verify.At first faults.BadStep
 refused first refusals.LogNesting = verify.At first faults.LogNesting
 refused first refusals.NoSuch = verify.At first faults.BadReference
-refused first refusals.Memory = verify.Memory
+refused first (refusals.Memory memory) = verify.Memory memory
 
 -- what the record that began at this line answers
 abbrev pub settled_at : ℕ → Result (Unit {0}) Refusal → Result (Unit {0}) VerifyFault
@@ -101,7 +101,7 @@ abbrev pub Recorded : Result (Unit {0}) VerifyFault → RecordForm names → ℕ
 Recorded (Ok u) f first st now old new = outcome_in first st f old ≡ check names new.last (Between now) new.tokens
 Recorded (Err (verify.At line fault)) f first st now old new = outcome_in first st f old ≡ Stops line (fault_of fault)
 Recorded (Err verify.ReadFault) f first st now old new = Unit {0}
-Recorded (Err verify.Memory) f first st now old new = Unit {0}
+Recorded (Err (verify.Memory memory)) f first st now old new = Unit {0}
 
 -- of the bytes that were read, and any that may follow
 pub record RecordedFrom (result : Result (Unit {0}) VerifyFault) (f : RecordForm names) (first : ℕ)

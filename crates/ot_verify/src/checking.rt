@@ -11,7 +11,7 @@ use crate::log::Log;
 use crate::reader::Reader;
 use crate::records::take_record;
 use ot_io::Source;
-use ot_listing::PrintFault;
+use ot_log_text::PrintFault;
 use std::alloc::Global;
 use std::marker::Model;
 
@@ -44,7 +44,7 @@ impl Verified {
         match self.log.text(alloc, max, out) {
             Ok(()) => Ok(()),
             Err(PrintFault::TooLarge) => Err(VerifiedText::TooLarge),
-            Err(PrintFault::Memory) => Err(VerifiedText::Memory),
+            Err(PrintFault::Memory(memory)) => Err(VerifiedText::Memory(memory)),
         }
     }
 }

@@ -1,5 +1,6 @@
 ghost use Rattle.std.specs.Prelude.{◌≡◌};
 ghost use Rattle.ot_verify.specs.declared.fault.VerifyFault.TheVariants.{Memory as OutOfMemory};
+ghost use Rattle.ot_logic.specs.RanOut.{ran_out};
 
 use ot_logic::Memory;
 use std::alloc::{AllocError, AllocFailed};
@@ -26,7 +27,7 @@ pub enum VerifyFault {
     /// The source failed.
     ReadFault,
     /// There was too little memory.
-    Memory,
+    Memory(Memory),
 }
 
 /// Why there is no text of what a log proves.
@@ -35,29 +36,29 @@ pub enum VerifiedText {
     /// The text has more bytes than the limit allows.
     TooLarge,
     /// There was too little memory.
-    Memory,
+    Memory(Memory),
 }
 
 impl From<Memory> for VerifyFault {
-    ghost from_gives = { λ _ f. f ≡ OutOfMemory };
+    ghost from_gives = { λ _ f. f ≡ OutOfMemory ran_out };
 
-    fn from(_: Memory) -> VerifyFault {
-        VerifyFault::Memory
+    fn from(memory: Memory) -> VerifyFault {
+        VerifyFault::Memory(memory)
     }
 }
 
 impl From<AllocError> for VerifyFault {
-    ghost from_gives = { λ _ f. f ≡ OutOfMemory };
+    ghost from_gives = { λ _ f. f ≡ OutOfMemory ran_out };
 
-    fn from(_: AllocError) -> VerifyFault {
-        VerifyFault::Memory
+    fn from(refused: AllocError) -> VerifyFault {
+        VerifyFault::Memory(Memory::from(refused))
     }
 }
 
 impl<T: Drop> From<AllocFailed<T>> for VerifyFault {
-    ghost from_gives = { λ _ f. f ≡ OutOfMemory };
+    ghost from_gives = { λ _ f. f ≡ OutOfMemory ran_out };
 
-    fn from(_: AllocFailed<T>) -> VerifyFault {
-        VerifyFault::Memory
+    fn from(refused: AllocFailed<T>) -> VerifyFault {
+        VerifyFault::Memory(Memory::from(refused))
     }
 }

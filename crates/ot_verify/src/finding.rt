@@ -1,14 +1,14 @@
 //! What the numbers that records name stand for.
 ghost use Rattle.std.specs.Prelude.{◌≡◌, ◌↔◌, ℕ, IsTrue};
 ghost use Rattle.std.specs.List.{All};
-ghost use Rattle.ot_nodes.specs.Items.{HasName};
+ghost use Rattle.ot_log_nodes.specs.Items.{HasName};
 ghost use Rattle.ot_verify.specs.Finding.{Finds, FindsEach, IsFoundVariable, IsFoundTypePair};
 ghost use Rattle.ot_verify.specs.Finding.{IsFoundTermPair, IsFoundConstantPair};
 ghost use Rattle.ot_verify.specs.Asking.{IsAt};
 
 use crate::log::{Refusal, at};
 use crate::operand::{ConstantPair, NamedType, TermPair};
-use ot_nodes::{NameId, Nodes, TermId, TypeId, VariableNode};
+use ot_log_nodes::{NameId, Nodes, TermId, TypeId, VariableNode};
 use std::alloc::Global;
 
 /// The items at these places.

@@ -3,8 +3,8 @@ ghost use Rattle.std.specs.Prelude.{◌≡◌, Bool, true, false};
 ghost use Rattle.ot_logic.specs.Names.{Name};
 ghost use Rattle.ot_logic.specs.Naming.{names};
 ghost use Rattle.ot_logic.specs.Trees.{Ty, Tm, Variable};
-ghost use Rattle.ot_records.specs.Records.{RecordForm, AskName, AskType, AskTerm, ask_list};
-ghost use Rattle.ot_records.specs.Records.{ask_type_pair, ask_term_pair, ask_constant_pair};
+ghost use Rattle.ot_log_format.specs.Records.{RecordForm, AskName, AskType, AskTerm, ask_list};
+ghost use Rattle.ot_log_format.specs.Records.{ask_type_pair, ask_term_pair, ask_constant_pair};
 ghost use Rattle.ot_verify.specs.Asking.{AnsweredFrom, IsAt, AreEach};
 ghost use Rattle.ot_verify.specs.Logged.{LogView, IsNamed, IsTypePair, IsTermPair, IsConstantPair, MeetsNames};
 ghost use Rattle.ot_verify.specs.Later.{named-later, type-later, term-later};
@@ -17,7 +17,7 @@ use crate::operand::{ConstantPair, NamedType, TermPair};
 use crate::operands::{name_number, named_type, term_number, type_number};
 use crate::reader::Reader;
 use ot_io::Source;
-use ot_nodes::NameId;
+use ot_log_nodes::NameId;
 use std::alloc::Global;
 
 /// What a record may ask for in a list.

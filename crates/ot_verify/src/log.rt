@@ -5,35 +5,36 @@ ghost use Rattle.std.specs.List.{All};
 ghost use Rattle.ot_logic.specs.Names.{Name as NameValue};
 ghost use Rattle.ot_logic.specs.Naming.{names};
 ghost use Rattle.ot_logic.specs.Trees.{Ty, TyVar, TyOp, Variable, Tm, Free, Con, Bound, App, Abs, Sequent};
-ghost use Rattle.ot_records.specs.Steps.{refl_step, assume_step, eq_mp_step, abs_thm_step, app_thm_step};
-ghost use Rattle.ot_records.specs.Steps.{deduct_antisym_step, beta_step, subst_step, assumption_step};
-ghost use Rattle.ot_records.specs.Steps.{constant_step, constants_step, type_operator_step};
-ghost use Rattle.ot_records.specs.State.{nothing_made, makes_type, makes_term, makes_sequent};
-ghost use Rattle.ot_records.specs.State.{makes_assumption, makes_definition, makes_result};
-ghost use Rattle.ot_records.specs.Sound.{IsProved};
-ghost use Rattle.ot_nodes.specs.Items.{HasType, HasTerm, type_at, term_at};
-ghost use Rattle.ot_rules.specs.Statements.{terms_at, sequent_at, HasStatement, Gives};
+ghost use Rattle.ot_log_format.specs.Steps.{refl_step, assume_step, eq_mp_step, abs_thm_step, app_thm_step};
+ghost use Rattle.ot_log_format.specs.Steps.{deduct_antisym_step, beta_step, subst_step, assumption_step};
+ghost use Rattle.ot_log_format.specs.Steps.{constant_step, constants_step, type_operator_step};
+ghost use Rattle.ot_log_format.specs.State.{nothing_made, makes_type, makes_term, makes_sequent};
+ghost use Rattle.ot_log_format.specs.State.{makes_assumption, makes_definition, makes_result};
+ghost use Rattle.ot_log_format.specs.Sound.{IsProved};
+ghost use Rattle.ot_log_nodes.specs.Items.{HasType, HasTerm, type_at, term_at};
+ghost use Rattle.ot_log_rules.specs.Statements.{terms_at, sequent_at, HasStatement, Gives};
 ghost use Rattle.ot_verify.specs.Logged.{IsNamed, IsVariable, IsTypePair, IsTermPair};
 ghost use Rattle.ot_verify.specs.Logged.{IsConstantPair, MeetsNames, MadeBy};
-ghost use Rattle.ot_records.specs.Records.{arguments};
+ghost use Rattle.ot_log_format.specs.Records.{arguments};
 ghost use Rattle.ot_verify.specs.Asking.{IsAt, AreEach};
-ghost use Rattle.ot_listing.specs.Summaries.{summary_text};
+ghost use Rattle.ot_log_text.specs.Summaries.{summary_text};
 ghost use Rattle.ot_text.specs.Pages.{Appended};
 ghost use Rattle.ot_verify.specs.Held.{of_step};
-ghost use Rattle.ot_rules.specs.Definitions.{definition_at, HasDefinition};
+ghost use Rattle.ot_log_rules.specs.Definitions.{definition_at, HasDefinition};
+ghost use Rattle.ot_logic.specs.RanOut.{ran_out};
 
 use crate::finding::{
     are_names, constant_pairs_at, each_at, term_pairs_at, type_pairs_at, variable_at,
 };
 use crate::operand::{ConstantPair, NamedType, TermPair};
-use ot_listing::{PrintFault, summary_text};
-use ot_logic::{Memory, Name};
-use ot_nodes::{DEPTH_LIMIT, NameId, Nodes, TermId, TypeId, Typings};
-use ot_rules::{
+use ot_log_nodes::{DEPTH_LIMIT, NameId, Nodes, TermId, TypeId, Typings};
+use ot_log_rules::{
     Accepted, Definition, Kept, Signature, Statement, StepFault, abs_thm, app_thm,
     are_statements_within, assume, assumption, beta_conv, constant, constants, copied,
     deduct_antisym, eq_mp, is_statement_within, refl, subst, type_operator,
 };
+use ot_log_text::{PrintFault, summary_text};
+use ot_logic::{Memory, Name};
 use std::alloc::{AllocError, AllocFailed, Global};
 use std::marker::Model;
 
@@ -44,36 +45,36 @@ pub(crate) enum Refusal {
     LogNesting,
     /// A number that isn't one of the log's.
     NoSuch,
-    Memory,
+    Memory(Memory),
 }
 
 impl From<Memory> for Refusal {
     ghost use Rattle.ot_verify.specs.declared.log.Refusal.TheVariants.{Memory as OutOfMemory};
 
-    ghost from_gives = { λ _ f. f ≡ OutOfMemory };
+    ghost from_gives = { λ _ f. f ≡ OutOfMemory ran_out };
 
-    fn from(_: Memory) -> Refusal {
-        Refusal::Memory
+    fn from(memory: Memory) -> Refusal {
+        Refusal::Memory(memory)
     }
 }
 
 impl From<AllocError> for Refusal {
     ghost use Rattle.ot_verify.specs.declared.log.Refusal.TheVariants.{Memory as OutOfMemory};
 
-    ghost from_gives = { λ _ f. f ≡ OutOfMemory };
+    ghost from_gives = { λ _ f. f ≡ OutOfMemory ran_out };
 
-    fn from(_: AllocError) -> Refusal {
-        Refusal::Memory
+    fn from(refused: AllocError) -> Refusal {
+        Refusal::Memory(Memory::from(refused))
     }
 }
 
 impl<T: Drop> From<AllocFailed<T>> for Refusal {
     ghost use Rattle.ot_verify.specs.declared.log.Refusal.TheVariants.{Memory as OutOfMemory};
 
-    ghost from_gives = { λ _ f. f ≡ OutOfMemory };
+    ghost from_gives = { λ _ f. f ≡ OutOfMemory ran_out };
 
-    fn from(_: AllocFailed<T>) -> Refusal {
-        Refusal::Memory
+    fn from(refused: AllocFailed<T>) -> Refusal {
+        Refusal::Memory(Memory::from(refused))
     }
 }
 
@@ -689,6 +690,6 @@ fn refused_step(fault: StepFault) -> Refusal
 {
     match fault {
         StepFault::BadStep => Refusal::BadStep,
-        StepFault::Memory => Refusal::Memory,
+        StepFault::Memory(memory) => Refusal::Memory(memory),
     }
 }

@@ -1,4 +1,4 @@
-use ot_nodes::NameId;
+use ot_log_nodes::NameId;
 
 /// A name, and the number of a type.
 #[derive(Clone, Copy)]

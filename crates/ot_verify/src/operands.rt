@@ -1,5 +1,5 @@
 //! What records ask for: names, the numbers of earlier types, terms and sequents, and names with types.
-ghost use Rattle.ot_records.specs.Records.{AskName, AskType, AskTerm, AskSequent, ask_variable, ask_type_pair};
+ghost use Rattle.ot_log_format.specs.Records.{AskName, AskType, AskTerm, AskSequent, ask_variable, ask_type_pair};
 ghost use Rattle.ot_verify.specs.Asking.{AnsweredFrom, IsAt};
 ghost use Rattle.ot_verify.specs.Logged.{IsNamed, IsVariable, IsTypePair, MeetsNames};
 ghost use Rattle.ot_verify.specs.Going.{ReadsOn};
@@ -9,7 +9,7 @@ use crate::log::Log;
 use crate::operand::NamedType;
 use crate::reader::Reader;
 use ot_io::Source;
-use ot_nodes::NameId;
+use ot_log_nodes::NameId;
 use std::alloc::Global;
 
 /// The number of a name.
@@ -27,7 +27,7 @@ pub(crate) fn name_number<S: Source>(
     match reader.name(alloc, source) {
         Ok(name) => match log.intern(name) {
             Ok(number) => Ok(number),
-            Err(_memory) => Err(VerifyFault::Memory),
+            Err(memory) => Err(VerifyFault::Memory(memory)),
         },
         Err(fault) => Err(fault),
     }

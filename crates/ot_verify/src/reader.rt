@@ -1,8 +1,8 @@
 ghost use Rattle.std.specs.Prelude.{◌≡◌, ◌<◌, ◌≤◌, ◌^◌, ℕ, length, slice_index, [], false, Err, IfOk, IfSome};
 ghost use Rattle.ot_io.specs.Causes.{CountRose};
 ghost use Rattle.ot_io.specs.Keeping.{KeepsSource};
-ghost use Rattle.ot_records.specs.State.{LogState};
-ghost use Rattle.ot_records.specs.Records.{AskName, AskCount, AskType, AskTerm, AskSequent};
+ghost use Rattle.ot_log_format.specs.State.{LogState};
+ghost use Rattle.ot_log_format.specs.Records.{AskName, AskCount, AskType, AskTerm, AskSequent};
 ghost use Rattle.ot_logic.specs.Names.{Name as NameValue};
 ghost use Rattle.ot_verify.specs.Reading.{token};
 ghost use Rattle.ot_verify.specs.Taking.{TakesFrom, TakesText, ReadsName, stopped};
@@ -12,8 +12,8 @@ ghost use Rattle.ot_verify.specs.Going.{HeadsFrom, BeginsFrom, Advances, ReadsOn
 use crate::fault::{LogFault, VerifyFault};
 use crate::token::{Token, read_token};
 use ot_io::Source;
+use ot_log_format::RecordWord;
 use ot_logic::{Name, NameFault};
-use ot_records::RecordWord;
 use ot_scan::{Lines, ScanFault};
 use std::alloc::Global;
 
@@ -232,7 +232,7 @@ fn named(alloc: Global, line: u64, quoted: &[u8]) -> Result<Name, VerifyFault>
 {
     match Name::read(alloc, quoted) {
         Ok(name) => Ok(name),
-        Err(NameFault::Memory) => Err(VerifyFault::Memory),
+        Err(NameFault::Memory(memory)) => Err(VerifyFault::Memory(memory)),
         Err(_) => Err(VerifyFault::At {
             line,
             fault: LogFault::BadToken,

@@ -1,7 +1,7 @@
 //! The records of a log: what each asks for is read, and then it makes what it makes.
 ghost use Rattle.std.specs.Prelude.{◌≡◌};
 ghost use Rattle.ot_logic.specs.Naming.{names};
-ghost use Rattle.ot_records.specs.Records.{form};
+ghost use Rattle.ot_log_format.specs.Records.{form};
 ghost use Rattle.ot_verify.specs.Logged.{RecordedFrom, refused, settled_at};
 ghost use Rattle.ot_verify.specs.Going.{ReadsOn};
 
@@ -12,8 +12,8 @@ use crate::operand::{ConstantPair, NamedType, TermPair};
 use crate::operands::{name_number, named_type, sequent_number, term_number, type_number};
 use crate::reader::Reader;
 use ot_io::Source;
-use ot_nodes::NameId;
-use ot_records::RecordWord;
+use ot_log_format::RecordWord;
+use ot_log_nodes::NameId;
 use std::alloc::Global;
 
 /// The record that begins with a word, at this line.
@@ -440,6 +440,6 @@ fn refused_at(first: u64, refusal: Refusal) -> VerifyFault
             line: first,
             fault: LogFault::BadReference,
         },
-        Refusal::Memory => VerifyFault::Memory,
+        Refusal::Memory(memory) => VerifyFault::Memory(memory),
     }
 }

@@ -24,7 +24,7 @@ use Rattle.ot_written.proofs.Renaming.{renamed-article-law}
 use Rattle.ot_written.proofs.Same.{same-origin-law}
 use Rattle.ot_write.specs.declared.roots.Roots as code
 use Rattle.ot_write.specs.Bytes.{AreRootsInside, article_bytes, roots_at}
-use Rattle.ot_write.specs.Emitting.{counted_bytes, count_of, given, number_lines, root_steps, same, taken}
+use Rattle.ot_write.specs.Emitting.{counted_bytes, count_of, given, number_lines, root_steps, same, marked_of}
 use Rattle.ot_write.proofs.Keys.{same-is, once-at, count-at, count-none}
 use Rattle.ot_write.proofs.Marking.{IsIn, uses-marked, uses-outside, taken-needed}
 
@@ -94,17 +94,17 @@ module _ (ns : List Name) (ts : List (Origin ℕ)) (table : IsStepTable ts) (ds 
   one : (o : Origin ℕ) → nat_le 1 (count_of ts counts o) ≡ u.has_use same R D o
   one o = ap (nat_le 1) (capped o) ∙ told 1 (u.use_count same R D o) (omega arith)
 
-  needed-is : map (origin_at ts) (taken marks ds) ≡ needed_definitions same R D
+  needed-is : map (origin_at ts) (marked_of marks ds) ≡ needed_definitions same R D
   needed-is = taken-needed ts table (flat_map root_steps es) ds roots_in ds_in marks m
 
-  by-counts : counted_bytes (given ns ts counts) (taken marks ds) es
+  by-counts : counted_bytes (given ns ts counts) (marked_of marks ds) es
       ≡ number_lines ns (u.article same D (map (roots_at ts) es)).lines
   by-counts =
       (λ i. number_lines ns (w.written same (λ o. two o i) (λ o. one o i) (needed-is i) (map (roots_at ts) es)).lines)
       ∙ ap (λ roots. number_lines ns (w.written same (u.is_shared same roots D) (u.has_use same roots D)
       (needed_definitions same roots D) (map (roots_at ts) es)).lines) (roots-are ts es)
 
-  pub counted-article : counted_bytes (given ns ts counts) (taken marks ds) es ≡ article_bytes ns ts ds es
+  pub counted-article : counted_bytes (given ns ts counts) (marked_of marks ds) es ≡ article_bytes ns ts ds es
   counted-article = by-counts ∙ number-names ns (u.article same D (map (roots_at ts) es)).lines
       ∙ ap bytes_of
       (sym (renamed-article-law (name_of ns) (name_of-injective ns) (same_origin names.same) same tells-names

@@ -18,7 +18,7 @@ use Rattle.ot_written.proofs.NeededDefinitions.{firsts-distinct, reached-origin,
 use Rattle.ot_written.proofs.NeededLaw.{among-to, among-from}
 use Rattle.ot_written.proofs.Renaming.{filter-map}
 use Rattle.ot_written.proofs.Walk.{marked-to, marked-in, marked-distinct, get-low, needed-by-test}
-use Rattle.ot_write.specs.Emitting.{same, is_marked, taken}
+use Rattle.ot_write.specs.Emitting.{same, is_marked, marked_of}
 use Rattle.ot_write.proofs.Keys.{same-is, once-at}
 use Rattle.ot_logic.proofs.Elements.{slice_get-set_other, slice_get-set_same}
 use Rattle.ot_logic.proofs.Members.{IsMember-map, IsMember-map_back}
@@ -224,7 +224,7 @@ module _ (ts : List (Origin ℕ)) (table : IsStepTable ts) (roots ds : List ℕ)
       never false = refl
 
   taken-kept : (now : List Bool) (seen : List (Origin ℕ)) (is : List ℕ) → IsIn (length ts) is → Agrees now seen
-      → taken now is ≡ kept same at found seen is
+      → marked_of now is ≡ kept same at found seen is
   taken-kept now seen [] h a = refl
   taken-kept now seen (x ∷ is) h a =
       go (is_marked now x) refl
@@ -233,9 +233,9 @@ module _ (ts : List (Origin ℕ)) (table : IsStepTable ts) (roots ds : List ℕ)
       (λ p. taken-kept now (at x ∷ seen) is (λ i m. h i (inr m)) (passed-next now seen x (h x (inl refl)) p a))
     where
       go : (b : Bool) → is_marked now x ≡ b
-          → (is_marked now x ≡ true → taken (set now x false) is ≡ kept same at found (at x ∷ seen) is)
-          → (is_marked now x ≡ false → taken now is ≡ kept same at found (at x ∷ seen) is)
-          → cond b (x ∷ taken (set now x false) is) (taken now is)
+          → (is_marked now x ≡ true → marked_of (set now x false) is ≡ kept same at found (at x ∷ seen) is)
+          → (is_marked now x ≡ false → marked_of now is ≡ kept same at found (at x ∷ seen) is)
+          → cond b (x ∷ marked_of (set now x false) is) (marked_of now is)
           ≡ cond (is_among same (at x) found && not (is_among same (at x) seen))
           (x ∷ kept same at found (at x ∷ seen) is) (kept same at found (at x ∷ seen) is)
       go true e met passed = ap (λ l. x ∷ l) (met e)
@@ -253,7 +253,7 @@ module _ (ts : List (Origin ℕ)) (table : IsStepTable ts) (roots ds : List ℕ)
       (firsts_by same at is)) ∙ ap (filter (λ e. not (same (at i) e))) (firsts-at is))
 
   -- the marked definitions, each at its first place, are the needed ones
-  pub taken-needed : map at (taken marks ds) ≡ needed_definitions same R D
+  pub taken-needed : map at (marked_of marks ds) ≡ needed_definitions same R D
   taken-needed =
       ap (map at) (taken-kept marks [] ds ds_in at-first ∙ kept-is same same-is at found ds)
       ∙ sym (filter-map at (λ d. is_among same d found) (λ i. is_among same (at i) found) (λ i. refl)

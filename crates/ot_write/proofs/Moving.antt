@@ -27,7 +27,7 @@ use Rattle.ot_write.specs.declared.writer.Task.TheVariants as task
 use Rattle.ot_trace.specs.declared.step.Step.{Step}
 use Rattle.ot_trace.specs.declared.step.Step.TheVariants as step
 use Rattle.ot_trace.specs.Trace.{IsBelow, IsStepTable, operand_numbers, origin_at, origins_at, origin_of}
-use Rattle.ot_write.specs.Emitting.{same, IsInside, Given, given, HasKeys, Shows, Moves, Replaces, keep}
+use Rattle.ot_write.specs.Emitting.{same, ArePlacesBelow, Given, given, HasKeys, Shows, Moves, Replaces, keep}
 use Rattle.ot_write.specs.Emitting.{used, begin, close, perform, rest, cost, cost_all, task_cost, total, count_of}
 use Rattle.ot_write.proofs.Putting.{put-put}
 use Rattle.ot_write.proofs.Keys.{get-of, origin-here, once-at, count-at, count-none}
@@ -296,21 +296,21 @@ operands-inside n k r s below e low =
     all-below (step.Outcome j d) h = λ i e l. absurd (omega arith)
 
 module _ (n : ℕ) where
-  pub inside-append : (xs ys : List Task) → IsInside n xs → IsInside n ys → IsInside n (xs ++ ys)
+  pub inside-append : (xs ys : List Task) → ArePlacesBelow n xs → ArePlacesBelow n ys → ArePlacesBelow n (xs ++ ys)
   inside-append [] ys h k = k
   inside-append (x ∷ xs) ys h k = (h.0, inside-append xs ys h.1 k)
 
-  inside-operands : (is : List ℕ) → AllByRecursion (λ i. i < n) is → IsInside n (reverse (map task.Write is))
+  inside-operands : (is : List ℕ) → AllByRecursion (λ i. i < n) is → ArePlacesBelow n (reverse (map task.Write is))
   inside-operands [] h = tt
-  inside-operands (i ∷ is) h = subst (IsInside n) (sym (reverse-append (task.Write i ∷ []) (map task.Write is)))
+  inside-operands (i ∷ is) h = subst (ArePlacesBelow n) (sym (reverse-append (task.Write i ∷ []) (map task.Write is)))
       (inside-append (reverse (map task.Write is)) (task.Write i ∷ []) (inside-operands is h.1) (h.0, tt))
 
   pub asked-inside : {E : Type 0} (r : Result (Unit {0}) E) (old new : List Task) (id : ℕ) (is : List ℕ)
-      → IsInside n old → id < n → AllByRecursion (λ i. i < n) is
-      → OnOk r (new ≡ (old ++ task.Close id ∷ []) ++ reverse (map task.Write is)) → OnOk r (IsInside n new)
+      → ArePlacesBelow n old → id < n → AllByRecursion (λ i. i < n) is
+      → OnOk r (new ≡ (old ++ task.Close id ∷ []) ++ reverse (map task.Write is)) → OnOk r (ArePlacesBelow n new)
   asked-inside (Err e) old new id is h k a p = tt
   asked-inside (Ok u) old new id is h k a p =
-      subst (IsInside n) (sym p) (inside-append (old ++ task.Close id ∷ []) (reverse (map task.Write is))
+      subst (ArePlacesBelow n) (sym p) (inside-append (old ++ task.Close id ∷ []) (reverse (map task.Write is))
       (inside-append old (task.Close id ∷ []) h (k, tt)) (inside-operands is a))
 
 -- ---- what has so many uses
@@ -474,6 +474,6 @@ define-outcome g x j d e t = subst (λ z. t ≡ w.emit_definition same (keep g) 
 
 -- the work of a definition
 pub asked-work : (n : ℕ) (new : List Task) (id : ℕ) (is : List ℕ) → id < n → AllByRecursion (λ i. i < n) is
-    → new ≡ ([] ++ task.Close id ∷ []) ++ reverse (map task.Write is) → IsInside n new
-asked-work n new id is k a p = subst (IsInside n) (sym p)
+    → new ≡ ([] ++ task.Close id ∷ []) ++ reverse (map task.Write is) → ArePlacesBelow n new
+asked-work n new id is k a p = subst (ArePlacesBelow n) (sym p)
     (inside-append n ([] ++ task.Close id ∷ []) (reverse (map task.Write is)) (k, tt) (inside-operands n is a))

@@ -6,7 +6,7 @@ use Rattle.std.proofs.lemmas.List.{take_more}
 use Rattle.std.proofs.lemmas.Grind.{flat_map-append}
 use Rattle.ot_logic.specs.Lists.{IsMember, IsPart}
 use Rattle.ot_write.specs.declared.roots.Roots as code
-use Rattle.ot_write.specs.Emitting.{is_marked, root_steps, taken}
+use Rattle.ot_write.specs.Emitting.{is_marked, root_steps, marked_of}
 
 pub steps-more : (es : List code.Roots) (i : ℕ) (x : code.Roots) (a b c e : List ℕ) → x ≡ get_or es i x
     → i < length es → a ≡ flat_map root_steps (take i es) → b ≡ a ++ x.theorem ∷ [] → c ≡ b ++ x.list ∷ []
@@ -19,26 +19,26 @@ steps-more es i x a b c e here lt p q r s =
     ∙ ap (flat_map root_steps) (sym (take_more es i x lt))
 
 pub taken-in : (n : ℕ) (marks : List Bool) (is : List ℕ) → ((i : ℕ) → IsMember i is → i < n)
-    → AllByRecursion (λ i. i < n) (taken marks is)
+    → AllByRecursion (λ i. i < n) (marked_of marks is)
 taken-in n marks [] h = tt
 taken-in n marks (x ∷ is) h =
     go (is_marked marks x) (h x (inl refl), taken-in n (set marks x false) is (λ i m. h i (inr m)))
     (taken-in n marks is (λ i m. h i (inr m)))
   where
-    go : (b : Bool) → (x < n) × AllByRecursion (λ i. i < n) (taken (set marks x false) is)
-        → AllByRecursion (λ i. i < n) (taken marks is)
-        → AllByRecursion (λ i. i < n) (cond b (x ∷ taken (set marks x false) is) (taken marks is))
+    go : (b : Bool) → (x < n) × AllByRecursion (λ i. i < n) (marked_of (set marks x false) is)
+        → AllByRecursion (λ i. i < n) (marked_of marks is)
+        → AllByRecursion (λ i. i < n) (cond b (x ∷ marked_of (set marks x false) is) (marked_of marks is))
     go true a c = a
     go false a c = c
 
 -- what is taken is of the list
-pub taken-part : (marks : List Bool) (is : List ℕ) → IsPart (taken marks is) is
+pub taken-part : (marks : List Bool) (is : List ℕ) → IsPart (marked_of marks is) is
 taken-part marks [] i m = m
 taken-part marks (x ∷ is) i m = go (is_marked marks x) (taken-part (set marks x false) is i) (taken-part marks is i) m
   where
-    go : (b : Bool) → (IsMember i (taken (set marks x false) is) → IsMember i is)
-        → (IsMember i (taken marks is) → IsMember i is)
-        → IsMember i (cond b (x ∷ taken (set marks x false) is) (taken marks is)) → IsMember i (x ∷ is)
+    go : (b : Bool) → (IsMember i (marked_of (set marks x false) is) → IsMember i is)
+        → (IsMember i (marked_of marks is) → IsMember i is)
+        → IsMember i (cond b (x ∷ marked_of (set marks x false) is) (marked_of marks is)) → IsMember i (x ∷ is)
     go true f g (inl e) = inl e
     go true f g (inr m) = inr (f m)
     go false f g m = inr (g m)

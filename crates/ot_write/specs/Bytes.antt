@@ -34,4 +34,4 @@ article_bytes ns ts ds es =
 abbrev pub Writes : Result (Unit {0}) WriteRefusal → List ℕ → ℕ → List ℕ → List ℕ → Type 0
 Writes (Ok u) x max old new = (new ≡ old ++ x) × (length x ≤ max)
 Writes (Err refusals.TooLarge) x max old new = (new ≡ old) × (max < length x)
-Writes (Err refusals.Memory) x max old new = new ≡ old
+Writes (Err (refusals.Memory memory)) x max old new = new ≡ old

@@ -102,12 +102,12 @@ abbrev pub rest : Given → List Task → Text ℕ → Text ℕ
 rest g [] t = t
 rest g (k ∷ ks) t = perform g k (rest g ks t)
 
-abbrev pub place_of : Task → ℕ
-place_of (task.Write i) = i
-place_of (task.Close i) = i
+abbrev pub task_place : Task → ℕ
+task_place (task.Write i) = i
+task_place (task.Close i) = i
 
-abbrev pub IsInside : ℕ → List Task → Type 0
-IsInside n = AllByRecursion (λ k. place_of k < n)
+abbrev pub ArePlacesBelow : ℕ → List Task → Type 0
+ArePlacesBelow n = AllByRecursion (λ k. task_place k < n)
 
 abbrev mutual
   pub cost : Origin ℕ → ℕ
@@ -161,6 +161,6 @@ abbrev pub is_marked : List Bool → ℕ → Bool
 is_marked marks i = slice_index_or marks i false
 
 -- of these numbers those that are marked, each at its first place
-abbrev pub taken : List Bool → List ℕ → List ℕ
-taken marks [] = []
-taken marks (i ∷ is) = cond (is_marked marks i) (i ∷ taken (set marks i false) is) (taken marks is)
+abbrev pub marked_of : List Bool → List ℕ → List ℕ
+marked_of marks [] = []
+marked_of marks (i ∷ is) = cond (is_marked marks i) (i ∷ marked_of (set marks i false) is) (marked_of marks is)

@@ -6,7 +6,7 @@ ghost use Rattle.ot_trace.specs.Trace.{IsStepTable, origin_at};
 ghost use Rattle.ot_written.specs.Written.{roots_of};
 ghost use Rattle.ot_written.specs.Needed.{needed_definitions};
 ghost use Rattle.ot_write.specs.Bytes.{AreNamed, AreRootsInside, Writes, article_bytes, roots_at};
-ghost use Rattle.ot_write.specs.Emitting.{counted_bytes, given, root_steps, same, taken};
+ghost use Rattle.ot_write.specs.Emitting.{counted_bytes, given, root_steps, same, marked_of};
 
 use crate::roots::Roots;
 use crate::text::WriteRefusal;
@@ -88,7 +88,7 @@ fn take_marked(
 ) -> Result<Vec<StepId>, Memory>
     requires marks { length marks.items ≡ count }
     requires definitions { All (λ i. i < count) definitions.now }
-    ensures { IfOk result (λ needed. needed.items ≡ taken marks.items definitions.now) }
+    ensures { IfOk result (λ needed. needed.items ≡ marked_of marks.items definitions.now) }
 {
     let mut needed = Vec::new(alloc);
     for definition in definitions {

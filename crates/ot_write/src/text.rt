@@ -4,6 +4,7 @@ ghost use Rattle.ot_written.specs.Bytes.{line_bytes};
 ghost use Rattle.ot_written.specs.Written.{Numeral, Spelled, Order};
 ghost use Rattle.ot_write.specs.Bytes.{Writes};
 ghost use Rattle.ot_write.specs.Limited.{Bytes, Full, put, limited};
+ghost use Rattle.ot_logic.specs.RanOut.{ran_out};
 
 use crate::lines::{push_key, push_name, push_number, push_word};
 use ot_logic::{Cmd, Memory, Name};
@@ -14,17 +15,17 @@ use std::alloc::Global;
 pub enum WriteRefusal {
     /// It has more bytes than the limit allows.
     TooLarge,
-    Memory,
+    Memory(Memory),
 }
 
 impl From<Memory> for WriteRefusal {
     ghost use Rattle.std.specs.Prelude.{◌≡◌};
     ghost use Rattle.ot_write.specs.declared.text.WriteRefusal.TheVariants.{Memory as OutOfMemory};
 
-    ghost from_gives = { λ _ e. e ≡ OutOfMemory };
+    ghost from_gives = { λ _ e. e ≡ OutOfMemory ran_out };
 
-    fn from(_: Memory) -> WriteRefusal {
-        WriteRefusal::Memory
+    fn from(memory: Memory) -> WriteRefusal {
+        WriteRefusal::Memory(memory)
     }
 }
 
@@ -126,7 +127,7 @@ impl Text {
         }
         match out.extend_from_slice(self.bytes.as_slice()) {
             Ok(()) => Ok(()),
-            Err(_) => Err(WriteRefusal::Memory),
+            Err(refused) => Err(WriteRefusal::Memory(Memory::from(refused))),
         }
     }
 }

@@ -12,8 +12,8 @@ ghost use Rattle.ot_written.specs.Written as written;
 ghost use Rattle.ot_write.specs.Bytes.{AreNamed, AreRootsInside, roots_at};
 ghost use Rattle.ot_write.specs.Limited.{Bytes, limited};
 ghost use Rattle.ot_write.specs.declared.writer.Task.TheVariants as task;
-ghost use Rattle.ot_write.specs.Emitting.{Given, HasKeys, IsInside, IsReady, Moves, Replaces, begin, close, cost, given};
-ghost use Rattle.ot_write.specs.Emitting.{keep, used, perform, place_of, rest, same, stored_from, task_cost, total};
+ghost use Rattle.ot_write.specs.Emitting.{Given, HasKeys, ArePlacesBelow, IsReady, Moves, Replaces, begin, close, cost, given};
+ghost use Rattle.ot_write.specs.Emitting.{keep, used, perform, task_place, rest, same, stored_from, task_cost, total};
 
 use crate::roots::Roots;
 use crate::text::Text;
@@ -114,7 +114,7 @@ impl Writer {
     ) -> Result<(), Memory>
         requires ready { IsReady trace.now counts.now self.old }
         requires named { AreNamed (length names.now) trace.now }
-        requires work { IsInside (length trace.now) work.items }
+        requires work { ArePlacesBelow (length trace.now) work.items }
         ensures ready { IsReady trace.now counts.now self.new }
         ensures moves { let g = given names.now trace.now counts.now in
             OnOk result (Moves g self.old self.new (rest g work.items)) }
@@ -135,10 +135,10 @@ impl Writer {
     ) -> Result<(), Memory>
         requires ready { IsReady trace.now counts.now self.old }
         requires named { AreNamed (length names.now) trace.now }
-        requires inside { place_of task < length trace.now }
-        requires work { IsInside (length trace.now) work.old.items }
+        requires inside { task_place task < length trace.now }
+        requires work { ArePlacesBelow (length trace.now) work.old.items }
         ensures ready { IsReady trace.now counts.now self.new }
-        ensures work { OnOk result (IsInside (length trace.now) work.new.items) }
+        ensures work { OnOk result (ArePlacesBelow (length trace.now) work.new.items) }
         ensures moves { let g = given names.now trace.now counts.now in
             OnOk result (Replaces g self.old self.new work.old.items work.new.items (perform g task)) }
         ensures cheaper { OnOk result (total trace.now work.new.items < total trace.now work.old.items
@@ -162,9 +162,9 @@ impl Writer {
         requires ready { IsReady trace.now counts.now self.old }
         requires named { AreNamed (length names.now) trace.now }
         requires inside { id < length trace.now }
-        requires work { IsInside (length trace.now) work.old.items }
+        requires work { ArePlacesBelow (length trace.now) work.old.items }
         ensures ready { IsReady trace.now counts.now self.new }
-        ensures work { OnOk result (IsInside (length trace.now) work.new.items) }
+        ensures work { OnOk result (ArePlacesBelow (length trace.now) work.new.items) }
         ensures moves { let g = given names.now trace.now counts.now in
             OnOk result (Replaces g self.old self.new work.old.items work.new.items
             (emit same (keep g) (origin_at trace.now id))) }
@@ -190,9 +190,9 @@ impl Writer {
         requires ready { IsReady trace.now counts.now self.old }
         requires named { AreNamed (length names.now) trace.now }
         requires inside { id < length trace.now }
-        requires work { IsInside (length trace.now) work.old.items }
+        requires work { ArePlacesBelow (length trace.now) work.old.items }
         ensures ready { IsReady trace.now counts.now self.new }
-        ensures work { OnOk result (IsInside (length trace.now) work.new.items) }
+        ensures work { OnOk result (ArePlacesBelow (length trace.now) work.new.items) }
         ensures moves { let g = given names.now trace.now counts.now in
             OnOk result (Replaces g self.old self.new work.old.items work.new.items
             (begin g (origin_at trace.now id))) }

@@ -57,14 +57,24 @@ const ARTICLES: &[(&[u8], &[u8], &str, Status, &[u8])] = &[
     ),
 ];
 
+const REQUIRES_EQ: Entry = (
+    "u.thy",
+    b"requires: eq\nlib {\npackage: eq-1.0\ninterpret: const \"X\" as \"=\"\n}\n",
+    b"main {\nimport: lib\n}\n",
+);
+
+const EQ_THEORY: Entry = (
+    "packages/eq-1.0/eq.thy",
+    b"inner {\ninterpret: const \"Y\" as \"X\"\narticle: \"eq.art\"\n}\n",
+    b"main {\nimport: inner\n}\n",
+);
+
+const EQ_ARTICLE: Entry = ("packages/eq-1.0/eq.art", SYMMETRY, b"");
+
 /// A theory file that requires a package whose article runs in its context alone, one that requires none that is
 /// installed, and one that requires a package which runs.
 const FILES: [Entry; 9] = [
-    (
-        "u.thy",
-        b"requires: eq\nlib {\npackage: eq-1.0\ninterpret: const \"X\" as \"=\"\n}\n",
-        b"main {\nimport: lib\n}\n",
-    ),
+    REQUIRES_EQ,
     (
         "gone.thy",
         b"requires: gone\nlib {\npackage: eq-1.0\ninterpret: const \"X\" as \"=\"\n}\n",
@@ -77,18 +87,22 @@ const FILES: [Entry; 9] = [
     ),
     ("truth.art", EQUATION, DEFINES_IT),
     ("packages/installed", b"eq-1.0\none-1\n", b""),
-    (
-        "packages/eq-1.0/eq.thy",
-        b"inner {\ninterpret: const \"Y\" as \"X\"\narticle: \"eq.art\"\n}\n",
-        b"main {\nimport: inner\n}\n",
-    ),
-    ("packages/eq-1.0/eq.art", SYMMETRY, b""),
+    EQ_THEORY,
+    EQ_ARTICLE,
     (
         "packages/one-1/one.thy",
         b"main {\n  article: \"one.art\"\n}\n",
         b"",
     ),
     ("packages/one-1/one.art", EQUATION, PROVES_IT),
+];
+
+/// The first of them, where that package alone is installed.
+const ONE_INSTALLED: [Entry; 4] = [
+    REQUIRES_EQ,
+    ("packages/installed", b"eq-1.0", b""),
+    EQ_THEORY,
+    EQ_ARTICLE,
 ];
 
 /// Words behind `find`, the status, and the text.
@@ -153,6 +167,17 @@ fn packages(rt: HostRuntime) -> Result<(), Fail> {
             "{operands:?}"
         );
     }
+    let words = &["find", "(p : bool)", "u.thy"];
+    assert!(rt;
+        says(
+            rt.alloc(),
+            words,
+            &ONE_INSTALLED,
+            0,
+            Status::Refused,
+            NOT_EQUATION
+        )?
+    );
     Ok(())
 }
 

@@ -120,19 +120,56 @@ fn failing_files(rt: HostRuntime) -> Result<(), Fail> {
     Ok(())
 }
 
-/// Whether a theory file of so many newlines is refused so.
-fn is_refused(alloc: Global, length: usize, text: &[u8]) -> Result<bool, Fail> {
+/// Words behind which a file of newlines is named, the file, how many newlines it has, and what is answered.
+const NEWLINES: [(&[&str], &str, usize, Status, &[u8]); 4] = [
+    (
+        &["check", "b.thy"],
+        "b.thy",
+        1_048_576,
+        Status::Refused,
+        b"opentheory: b.thy:1048576: no block main\n",
+    ),
+    (
+        &["check", "b.thy"],
+        "b.thy",
+        1_048_577,
+        Status::Refused,
+        b"opentheory: b.thy: theory longer than 1048576 bytes\n",
+    ),
+    (
+        &["read", "-", "b.txt"],
+        "b.txt",
+        1_048_576,
+        Status::Accepted,
+        b"",
+    ),
+    (
+        &["read", "-", "b.txt"],
+        "b.txt",
+        1_048_577,
+        Status::Refused,
+        b"opentheory: b.txt: text longer than 1048576 bytes\n",
+    ),
+];
+
+/// What is answered over one file of so many newlines, and nothing on the input.
+fn answered_on_newlines(
+    alloc: Global,
+    words: &[&str],
+    path: &str,
+    length: usize,
+) -> Result<Answer, Fail> {
     let lines = vec![in alloc; b'\n'; length]?;
-    let files = one_file(alloc, "b.thy", &lines)?;
-    let answer = answered_over(alloc, &["check", "b.thy"], files, b"", FINE)?;
-    Ok(answer.is(Status::Refused, text))
+    let files = one_file(alloc, path, &lines)?;
+    answered_over(alloc, words, files, b"", FINE)
 }
 
 #[test]
 fn malformed(rt: HostRuntime) -> Result<(), Fail> {
     let alloc = rt.alloc();
     // How many bytes of the article stand, and what is answered.
-    let cuts: [(usize, Status, &[u8]); 7] = [
+    let cuts: [(usize, Status, &[u8]); 8] = [
+        (0, Status::Accepted, NONE),
         (1, Status::Accepted, NONE),
         (3, Status::Refused, b"opentheory: -:2: unknown command\n"),
         (10, Status::Accepted, NONE),
@@ -147,16 +184,9 @@ fn malformed(rt: HostRuntime) -> Result<(), Fail> {
             "{count} bytes"
         );
     }
-    // How many newlines a theory file has, and what is answered.
-    let lengths: [(usize, &[u8]); 2] = [
-        (1_048_576, b"opentheory: b.thy:1048576: no block main\n"),
-        (
-            1_048_577,
-            b"opentheory: b.thy: theory longer than 1048576 bytes\n",
-        ),
-    ];
-    for (length, text) in lengths {
-        assert!(rt; is_refused(alloc, length, text)?, "{length} newlines");
+    for (words, path, length, status, text) in NEWLINES {
+        let answer = answered_on_newlines(alloc, words, path, length)?;
+        assert!(rt; answer.is(status, text), "{words:?} {length} newlines");
     }
     assert!(rt;
         says(

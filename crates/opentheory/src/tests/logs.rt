@@ -75,7 +75,7 @@ fn logs(rt: HostRuntime) -> Result<(), Fail> {
 }
 
 /// Whether `verify` prints this summary of the log that `prove` writes of an article.
-fn proves(alloc: Global, parts: &[&[u8]], summary: &[u8]) -> Result<bool, Fail> {
+pub(super) fn proves(alloc: Global, parts: &[&[u8]], summary: &[u8]) -> Result<bool, Fail> {
     let article = joined(alloc, parts)?;
     let log = answered(alloc, &["prove", "-"], &article, FINE)?;
     let is_proof = answers(alloc, &["verify", "-"], &log.out, Status::Accepted, summary)?;

@@ -5,7 +5,7 @@ use ot_program::Status;
 use std::test::Fail;
 
 /// The constant T, defined as an equation, as a theory file that shows its namespace, and texts to read.
-const FILES: [Entry; 9] = [
+const FILES: [Entry; 10] = [
     (
         "t.thy",
         b"show: \"Data.Bool\"\nmain {\n  article: \"truth.art\"\n}\n",
@@ -29,6 +29,7 @@ const FILES: [Entry; 9] = [
     ),
     ("none.txt", b"", b""),
     ("open.txt", b"|- (x : bool", b""),
+    ("y.txt", b"|- y", b""),
     ("unbound.txt", b"\n|- (x : bool)\n", b"|- y\n|- (x : bool"),
     ("types.txt", b"|- (x : bool)\n", b"   |- (x : 'a)"),
 ];
@@ -59,6 +60,11 @@ const ROWS: &[(&[&str], Status, &[u8])] = &[
         &["read", "t.thy", "open.txt"],
         Status::Refused,
         b"opentheory: open.txt:1:13: cannot be read\n",
+    ),
+    (
+        &["read", "truth.art", "y.txt"],
+        Status::Refused,
+        b"opentheory: y.txt:1:4: unbound name\n",
     ),
     (
         &["read", "t.thy", "unbound.txt"],

@@ -197,6 +197,18 @@ pub const DOUBLED: [Repeated; 4] = [
     ),
 ];
 
+/// Terms x and y at A, f at A -> (A -> A), stored as 6, 7 and 4.
+pub const KEYED: &[u8] =
+    b"6 version \"->\" typeOp 0 def pop \"A\" varType 1 def pop 0 ref 1 ref 1 ref nil cons cons opType 2 def pop 0 \
+      ref 1 ref 2 ref nil cons cons opType 3 def pop \"f\" 3 ref var varTerm 4 def pop \"x\" 1 ref var 5 def varTerm \
+      6 def pop \"y\" 1 ref var varTerm 7 def pop";
+
+/// Both are doubled 200 times, each time under the next key; y for x in the last of x's.
+pub const KEYED_LAST: &[u8] =
+    b"nil 5 ref 7 ref nil cons cons nil cons nil cons cons 406 ref refl subst nil \"=\" const 0 ref 1 ref 0 ref 1 \
+      ref \"bool\" typeOp nil opType nil cons cons opType nil cons cons opType constTerm 407 ref appTerm 407 ref \
+      appTerm thm";
+
 /// An assumption that is doubled 30 times is too large to be printed.
 pub const TOO_LARGE: Repeated = (
     &[P, b"\"p\" 1 ref var varTerm"],

@@ -185,6 +185,31 @@ const NEW_TYPE_5: &[&[u8]] = &[
     OPEN,
 ];
 
+/// a is the image of its image.
+const OPEN_FIRST: &[u8] =
+    b"pop nil 4 ref 0 ref \"T\" typeOp nil opType 7 def 0 ref 7 ref 1 ref nil cons cons opType nil cons cons \
+      opType constTerm \"abs\" const 0 ref 1 ref 7 ref nil cons cons opType constTerm \"rep\" const 0 ref 7 ref 1 \
+      ref nil cons cons opType constTerm \"a\" 7 ref var varTerm 6 def appTerm appTerm appTerm 6 ref appTerm thm";
+
+/// The same type operator, of which the first theorem is exported.
+const NEW_TYPE_5_FIRST: &[&[u8]] = &[
+    P5,
+    b"\"T\" \"abs\" \"rep\" nil nil \"P\" const 2 ref constTerm \"k\" const 1 ref constTerm appTerm axiom \
+      defineTypeOp",
+    OPEN_FIRST,
+];
+
+/// A type operator of version 5 whose predicate is \x. (\y. x = y) k, stored as 9; its second theorem is exported.
+const NEW_TYPE_5_BOUND: &[&[u8]] = &[
+    P5,
+    b"\"T\" \"abs\" \"rep\" nil nil \"x\" 1 ref var 10 def \"y\" 1 ref var 11 def 4 ref 3 ref constTerm 10 ref \
+      varTerm appTerm 11 ref varTerm appTerm absTerm \"k\" const 1 ref constTerm 12 def appTerm absTerm 9 def 12 \
+      ref appTerm axiom defineTypeOp nil 4 ref 3 ref constTerm 8 def 9 ref \"r\" 1 ref var varTerm 6 def appTerm \
+      appTerm 8 ref \"rep\" const 0 ref \"T\" typeOp nil opType 7 def 1 ref nil cons cons opType constTerm \
+      \"abs\" const 0 ref 1 ref 7 ref nil cons cons opType constTerm 6 ref appTerm appTerm appTerm 6 ref appTerm \
+      appTerm thm",
+];
+
 /// Two beta redexes, one in the other.
 const BETA: &[&[u8]] = &[
     P,
@@ -412,6 +437,30 @@ pub const SUMMARIES: &[(&[&[u8]], &[&str], &[u8])] = &[
         b"assumptions: 2\n  |- \"p\":\"bool\"\n  |- \"q\":\"bool\"\ndefinitions: 2\n  const \"d\" : |- \
           (@\"d\":\"bool\" = @\"k\":\"bool\")\n  const \"c\" : |- (@\"c\":\"bool\" = @\"k\":\"bool\")\ntheorems: \
           2\n  |- \"q\":\"bool\"\n  |- \"p\":\"bool\"\n",
+    ),
+];
+
+/// Articles with type operators of version 5, in parts, and their summaries.
+pub const NEW_TYPES_5: &[(&[&[u8]], &[u8])] = &[
+    (
+        NEW_TYPE_5_FIRST,
+        b"assumptions: 1\n  |- (@\"P\":(\"bool\" -> \"bool\") @\"k\":\"bool\")\ndefinitions: 1\n  type \"T\" () \
+          abs \"abs\" rep \"rep\" from |- (@\"P\":(\"bool\" -> \"bool\") @\"k\":\"bool\") : |- ((\\\"T\". \
+          (@\"abs\":(\"bool\" -> \"T\") (@\"rep\":(\"T\" -> \"bool\") #0))) = (\\\"T\". #0)) ; |- ((\\\"bool\". \
+          ((@\"rep\":(\"T\" -> \"bool\") (@\"abs\":(\"bool\" -> \"T\") #0)) = #0)) = (\\\"bool\". \
+          (@\"P\":(\"bool\" -> \"bool\") #0)))\ntheorems: 1\n  |- ((@\"abs\":(\"bool\" -> \"T\") \
+          (@\"rep\":(\"T\" -> \"bool\") \"a\":\"T\")) = \"a\":\"T\")\n",
+    ),
+    (
+        NEW_TYPE_5_BOUND,
+        b"assumptions: 1\n  |- ((\\\"bool\". ((\\\"bool\". (#1 = #0)) @\"k\":\"bool\")) @\"k\":\"bool\")\n\
+          definitions: 1\n  type \"T\" () abs \"abs\" rep \"rep\" from |- ((\\\"bool\". ((\\\"bool\". (#1 = #0)) \
+          @\"k\":\"bool\")) @\"k\":\"bool\") : |- ((\\\"T\". (@\"abs\":(\"bool\" -> \"T\") (@\"rep\":(\"T\" -> \
+          \"bool\") #0))) = (\\\"T\". #0)) ; |- ((\\\"bool\". ((@\"rep\":(\"T\" -> \"bool\") \
+          (@\"abs\":(\"bool\" -> \"T\") #0)) = #0)) = (\\\"bool\". ((\\\"bool\". ((\\\"bool\". (#1 = #0)) \
+          @\"k\":\"bool\")) #0)))\ntheorems: 1\n  |- (((\\\"bool\". ((\\\"bool\". (#1 = #0)) @\"k\":\"bool\")) \
+          \"r\":\"bool\") = ((@\"rep\":(\"T\" -> \"bool\") (@\"abs\":(\"bool\" -> \"T\") \"r\":\"bool\")) = \
+          \"r\":\"bool\"))\n",
     ),
 ];
 

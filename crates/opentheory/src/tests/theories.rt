@@ -167,6 +167,20 @@ pub const SHOWS: [Entry; 2] = [
     ("truth.art", EQUATION, DEFINES_IT),
 ];
 
+/// The constant T under another name.
+pub const DEFINES_TOP: [Entry; 2] = [
+    (
+        "t.thy",
+        b"main {\n  interpret: const \"Data.Bool.T\" as \"Top\"\n  article: \"truth.art\"\n}\n",
+        b"",
+    ),
+    ("truth.art", EQUATION, DEFINES_IT),
+];
+
+pub const DEFINED_TOP: &[u8] =
+    b"assumptions: 0\ndefinitions: 1\n  const \"Top\" : |- (@\"Top\":\"bool\" = ((\\\"bool\". #0) = \
+      (\\\"bool\". #0)))\ntheorems: 1\n  |- (@\"Top\":\"bool\" = ((\\\"bool\". #0) = (\\\"bool\". #0)))\n";
+
 pub const SHOWN: &[u8] =
     b"assumptions: 0\ntheorems: 1\n  |- ({T : bool} = ((\\x0 : bool . x0) = (\\x0 : bool . x0)))\n";
 

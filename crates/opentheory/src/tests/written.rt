@@ -39,6 +39,13 @@ pub const LINKED: &[u8] =
       \"=\" const \"->\" typeOp 4 def 4 ref 1 ref 1 ref 0 ref cons 5 def cons opType 6 def 4 ref 6 ref 5 ref \
       cons opType 0 ref cons cons opType constTerm 3 ref appTerm 3 ref appTerm thm";
 
+/// What they write of a theory whose article defines a constant that the theory names otherwise.
+pub const WRITTEN_TOP: &[u8] =
+    b"6 version \"Top\" 0 def \"=\" const 1 def \"->\" typeOp 2 def 2 ref \"bool\" typeOp nil 3 def opType 4 def 4 \
+      ref 3 ref cons 5 def cons opType 6 def 2 ref 6 ref 5 ref cons opType 3 ref cons cons opType constTerm \"x\" 4 \
+      ref var 7 def 7 ref varTerm absTerm 8 def appTerm 8 ref appTerm 9 def defineConst 10 def pop pop 10 ref 3 ref 1 \
+      ref 2 ref 4 ref 6 ref 3 ref cons cons opType constTerm 0 ref const 4 ref constTerm appTerm 9 ref appTerm thm";
+
 /// The sizes of samples, and their lines.
 pub const SAMPLES: &[(&str, &[u8])] = &[
     (

@@ -8,7 +8,7 @@ ghost use Rattle.ot_kernel.specs.Defining.{const_definition, list_definition};
 ghost use Rattle.ot_machine.specs.Rows.{defined, theorem_entries};
 ghost use Rattle.ot_machine.specs.Defining.{closed_defined, stated, AreOperandsIn};
 ghost use Rattle.ot_machine.specs.Meaning.{origin_of, run_of, IsOf};
-ghost use Rattle.ot_machine.specs.Stays.{Adds};
+ghost use Rattle.ot_machine.specs.Stays.{GrowsBeside};
 ghost use Rattle.ot_machine.specs.Answers.{Makes};
 
 use crate::fault::Fault;
@@ -41,7 +41,7 @@ impl Session {
             (defined (λ ds. const_definition names ds (name_at self.old.kernel name) (term_at self.old.kernel term))
             (origin_of self.old definition) (run_of self.old)) }
         ensures theorem { IfOk result (λ th. th < length self.new.kernel.theorems) }
-        ensures adds { Adds result self.old self.new machine.now }
+        ensures adds { GrowsBeside result self.old self.new machine.now }
     {
         self.definition_steps.push(definition)?;
         match self.kernel.define_const(name, term) {
@@ -79,7 +79,7 @@ impl Session {
             (map (variable_at self.old.kernel) variables.now) (theorem_at self.old.kernel premise))
             (origin_of self.old definition) (run_of self.old)) }
         ensures theorem { IfOk result (λ th. th < length self.new.kernel.theorems) }
-        ensures adds { Adds result self.old self.new machine.now }
+        ensures adds { GrowsBeside result self.old self.new machine.now }
     {
         self.definition_steps.push(definition)?;
         match self.kernel.define_list(constants, variables, premise) {
@@ -115,7 +115,7 @@ impl Session {
             (origin_of self.old definition) (run_of self.old)) }
         ensures first { IfOk result (λ p. p.0 < length self.new.kernel.theorems) }
         ensures second { IfOk result (λ p. p.1 < length self.new.kernel.theorems) }
-        ensures adds { Adds result self.old self.new machine.now }
+        ensures adds { GrowsBeside result self.old self.new machine.now }
     {
         self.definition_steps.push(definition)?;
         match self.kernel.define_type(name, abs, rep, variables, premise) {

@@ -15,7 +15,7 @@ ghost use Rattle.ot_machine.specs.Rows.{given_as, theorem_entry};
 ghost use Rattle.ot_machine.specs.Discharge.{given_for};
 ghost use Rattle.ot_machine.specs.Assumptions.{assumed_new, used};
 ghost use Rattle.ot_machine.specs.Meaning.{article_of, origin_of, run_of, IsRun, IsOf};
-ghost use Rattle.ot_machine.specs.Stays.{Stays, Adds};
+ghost use Rattle.ot_machine.specs.Stays.{Stays, GrowsBeside};
 ghost use Rattle.ot_machine.specs.Contexts.{given_of, context_of, IsContextOf};
 ghost use Rattle.ot_machine.specs.Answers.{Makes};
 
@@ -51,7 +51,7 @@ impl Session {
             (origins_of (top 2 (article_of self.old machine.now).stack)) (run_of self.old)) }
         ensures theorem { IfOk result (λ g. g.th < length self.new.kernel.theorems) }
         ensures step { IfOk result (λ g. g.step < length self.new.trace) }
-        ensures adds { Adds result self.old self.new machine.now }
+        ensures adds { GrowsBeside result self.old self.new machine.now }
     {
         let proper = self.is_proper(machine, hyps, concl)?;
         if !proper {
@@ -106,7 +106,7 @@ impl Session {
             (origins_of (top 2 (article_of self.old machine.now).stack)) (run_of self.old)) }
         ensures theorem { IfOk result (λ g. g.th < length self.new.kernel.theorems) }
         ensures step { IfOk result (λ g. g.step < length self.new.trace) }
-        ensures adds { Adds result self.old self.new machine.now }
+        ensures adds { GrowsBeside result self.old self.new machine.now }
     {
         if let Some(given) = self.given_for(context, hyps, concl) {
             return self.weakened(machine, given, hyps, list_step);
@@ -166,7 +166,7 @@ impl Session {
             (Make words.Axiom (origins_of (top 2 (article_of self.old machine.now).stack))) (run_of self.old)) }
         ensures theorem { IfOk result (λ g. g.th < length self.new.kernel.theorems) }
         ensures step { IfOk result (λ g. g.step < length self.new.trace) }
-        ensures adds { Adds result self.old self.new machine.now }
+        ensures adds { GrowsBeside result self.old self.new machine.now }
     {
         let upper = self.operand_at(machine, 0)?;
         let lower = self.operand_at(machine, 1)?;
@@ -197,7 +197,7 @@ impl Session {
             (origin_of self.old step) (run_of self.old)) }
         ensures theorem { IfOk result (λ g. g.th < length self.new.kernel.theorems) }
         ensures step { IfOk result (λ g. g.step < length self.new.trace) }
-        ensures adds { Adds result self.old self.new machine.now }
+        ensures adds { GrowsBeside result self.old self.new machine.now }
     {
         self.assumption_steps.push(step)?;
         match self.kernel.axiom(hyps, concl) {

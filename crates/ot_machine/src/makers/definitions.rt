@@ -15,7 +15,7 @@ ghost use Rattle.ot_machine.specs.Defining.{closed_defined, defined_in, stated, 
 ghost use Rattle.ot_machine.specs.Defining.{AreOperandsIn, AreOperatorSteps, IsOperatorOf};
 ghost use Rattle.ot_machine.specs.Contexts.{context_of, IsContextOf};
 ghost use Rattle.ot_machine.specs.Meaning.{article_of, origin_of, run_of, version_of, IsOf, Traces};
-ghost use Rattle.ot_machine.specs.Stays.{Adds, MakesStep};
+ghost use Rattle.ot_machine.specs.Stays.{GrowsBeside, MakesStep};
 ghost use Rattle.ot_machine.specs.Answers.{Makes};
 
 use crate::context::Context;
@@ -91,7 +91,7 @@ impl Session {
         ensures symbol_step { IfOk result (λ d. d.symbol < length self.new.trace) }
         ensures theorem { IfOk result (λ d. d.theorem < length self.new.kernel.theorems) }
         ensures step { IfOk result (λ d. d.step < length self.new.trace) }
-        ensures adds { Adds result self.old self.new machine.now }
+        ensures adds { GrowsBeside result self.old self.new machine.now }
     {
         let (symbol, definition) = self.constant_defining(machine, name, term_step)?;
         let step = self.outcome_step(machine, 1, definition)?;
@@ -165,7 +165,7 @@ impl Session {
             (run_of self.old)) }
         ensures theorem { IfOk result (λ d. d.0 < length self.new.kernel.theorems) }
         ensures step { IfOk result (λ d. d.1 < length self.new.trace) }
-        ensures adds { Adds result self.old self.new machine.now }
+        ensures adds { GrowsBeside result self.old self.new machine.now }
     {
         let definition = self.list_defining(machine, context, list_step, premise_step)?;
         let step = self.outcome_step(machine, 1, definition)?;
@@ -226,7 +226,7 @@ impl Session {
             (type_defining (name_at self.old.kernel name) (name_at self.old.kernel abs) (name_at self.old.kernel rep)
             (article_of self.old machine.now).stack) (run_of self.old)) }
         ensures operator { IfOk result (IsOperatorOf self.old self.new name abs rep) }
-        ensures adds { Adds result self.old self.new machine.now }
+        ensures adds { GrowsBeside result self.old self.new machine.now }
     {
         match version {
             Version::Six => self.closed_type_definition(
@@ -275,7 +275,7 @@ impl Session {
             (type_defining (name_at self.old.kernel name) (name_at self.old.kernel abs) (name_at self.old.kernel rep)
             (article_of self.old machine.now).stack) (run_of self.old)) }
         ensures operator { IfOk result (IsOperatorOf self.old self.new name abs rep) }
-        ensures adds { Adds result self.old self.new machine.now }
+        ensures adds { GrowsBeside result self.old self.new machine.now }
     {
         let steps = self.type_defining(machine, name, abs, rep, list_step, premise_step)?;
         let abs_rep_step = self.outcome_step(machine, 1, steps.definition)?;

@@ -12,7 +12,7 @@ ghost use Rattle.ot_machine.specs.OpenTypes.{fun_origin, bool_origin, constant_a
 ghost use Rattle.ot_machine.specs.OpenTypes.{composed, outcome_at, reduced, returned_origin, opened_origin};
 ghost use Rattle.ot_machine.specs.OpenTypes.{AreConstants, first_origin, second_origin, open_entries};
 ghost use Rattle.ot_machine.specs.Meaning.{article_of, origin_of, run_of, IsOf, Traces};
-ghost use Rattle.ot_machine.specs.Stays.{Stays, Adds, MakesStep};
+ghost use Rattle.ot_machine.specs.Stays.{Stays, GrowsBeside, MakesStep};
 ghost use Rattle.ot_machine.specs.Answers.{Makes};
 
 use crate::fault::Fault;
@@ -390,7 +390,7 @@ impl Session {
             (origin_of self.old definition) (run_of self.old)) }
         ensures first { IfOk result (λ p. p.0 < length self.new.kernel.theorems) }
         ensures second { IfOk result (λ p. p.1 < length self.new.kernel.theorems) }
-        ensures adds { Adds result self.old self.new machine.now }
+        ensures adds { GrowsBeside result self.old self.new machine.now }
     {
         self.kernel.sound();
         self.definition_steps.push(definition)?;
@@ -429,7 +429,7 @@ impl Session {
             (type_defining (name_at self.old.kernel name) (name_at self.old.kernel abs) (name_at self.old.kernel rep)
             (article_of self.old machine.now).stack) (run_of self.old)) }
         ensures operator { IfOk result (IsOperatorOf self.old self.new name abs rep) }
-        ensures adds { Adds result self.old self.new machine.now }
+        ensures adds { GrowsBeside result self.old self.new machine.now }
     {
         let steps = self.type_defining(machine, name, abs, rep, list_step, premise_step)?;
         let (abs_rep_step, rep_abs_step) = self.open_steps(

@@ -10,7 +10,6 @@ ghost use Rattle.ot_term.specs.Free.{key_at, var_key};
 
 use crate::table::{Terms, class_beside};
 use crate::term::{TermId, VarKey};
-use indexmap::IndexSet;
 use ot_class::Key;
 use ot_logic::{Memory, NameId};
 use ot_type::TypeId;
@@ -20,8 +19,7 @@ impl Terms {
     ghost use Rattle.ot_term.specs.TermTable.{term_at, variable_of, IsTermTable};
     ghost use Rattle.ot_term.specs.Free.{AreFree, AreTypesOf};
 
-    /// The free variables of a term, each once. A part that is shared is looked at once, or is small; a
-    /// closed part is passed over.
+    /// The free variables of a term, each once. They stand with its class: no term is walked.
     pub fn free_vars(&self, alloc: Global, id: TermId) -> Result<Vec<VarKey>, Memory>
         requires { id < length self.now.terms }
         ensures within { IfOk result (λ vars. All (λ v. v.ty < length self.now.types) vars.items) }
@@ -30,11 +28,11 @@ impl Terms {
             ↔ IsFree numbers w (nameless numbers (term_at self.now.terms id))) }
         ensures once { IfOk result (λ vars. AreDistinct vars.items) }
     {
-        let keys = self.free_keys(alloc, id)?;
-        var_keys(alloc, &keys)
+        let keys = self.free_keys(id)?;
+        var_keys(alloc, keys.as_slice())
     }
 
-    /// The free variables of a term that have a name, each once. A part that is shared is looked at once, or is small.
+    /// The free variables of a term that have a name, each once. No term is walked.
     pub fn free_named(&self, alloc: Global, name: NameId, id: TermId) -> Result<Vec<VarKey>, Memory>
         requires { id < length self.now.terms }
         ensures within { IfOk result (λ vars. All (λ v. v.ty < length self.now.types) vars.items) }
@@ -47,7 +45,7 @@ impl Terms {
         keys_of(alloc, name, &types)
     }
 
-    /// Whether a variable is free in a term. A part that is shared is looked at once, or is small.
+    /// Whether a variable is free in a term. No term is walked.
     pub fn is_free(&self, alloc: Global, v: &VarKey, id: TermId) -> Result<bool, Memory>
         requires ty { v.now.ty < length self.now.types }
         requires term { id < length self.now.terms }
@@ -76,19 +74,19 @@ impl Terms {
         self.classes.types_of(alloc, name, class)
     }
 
-    /// The free variables of a term's nameless form, each once.
-    fn free_keys(&self, alloc: Global, id: TermId) -> Result<IndexSet<Key>, Memory>
+    /// The free variables of a term's class, each once.
+    fn free_keys(&self, id: TermId) -> Result<Vec<Key>, Memory>
         requires { id < length self.now.terms }
-        ensures { IfOk result (λ keys. AreFree self.now.types (term_at self.now.terms id) (map var_key keys.keys)) }
+        ensures { IfOk result (λ keys. AreFree self.now.types (term_at self.now.terms id) (map var_key keys.items)) }
     {
         let class = class_beside(&self.nodes, id);
-        self.classes.free_vars(alloc, class)
+        self.classes.free_vars(class)
     }
 }
 
-/// The variables of a nameless form, as those of a term.
-fn var_keys(alloc: Global, keys: &IndexSet<Key>) -> Result<Vec<VarKey>, Memory>
-    ensures { IfOk result (λ vars. vars.items ≡ map var_key keys.now.keys) }
+/// The variables of a class, as those of a term.
+fn var_keys(alloc: Global, keys: &[Key]) -> Result<Vec<VarKey>, Memory>
+    ensures { IfOk result (λ vars. vars.items ≡ map var_key keys.now) }
 {
     Ok(
         keys.iter()

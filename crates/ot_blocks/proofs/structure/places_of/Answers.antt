@@ -2,7 +2,7 @@ use Rattle.std.proofs.Common.{◌≡◌, ◌∙◌, ◌+◌, ◌++◌, ◌∷◌
 use Rattle.std.proofs.lemmas.List.{length-map, length-take-le}
 use Rattle.ot_theory.specs.Answers.{block_of, blocks_of}
 use Rattle.ot_blocks.specs.Answers.{places_in}
-use Rattle.ot_blocks.specs.Structure.{place_of}
+use Rattle.ot_blocks.specs.Structure.{block_places}
 use Rattle.ot_blocks.proofs.Collecting.{map_more}
 use Rattle.ot_blocks.proofs.Placing.{place_inserted, place_kept}
 use Rattle.ot_blocks.proofs.structure.places_of.Goals as goal
@@ -24,10 +24,10 @@ each-preserved c =
           ∙ place_inserted (places_in c.each.places) (places_in w.insert.new.self) b.name.now k before (block_of b)
           c.each.invariant refl size (sym w.if-not-contains_key.ensures)
           (λ q. w.in_ok-insert.ensures.updates.0 (record { ref_ptr = b.name.ref_ptr; now = q })) name
-          ∙ ap (λ z. place_of z name) (sym more)
+          ∙ ap (λ z. block_places z name) (sym more)
       | else-not-contains_key w ↦ λ name.
           ap (λ m. places_in m name) w.places-is
           ∙ place_kept (places_in c.each.places) b.name.now before (block_of b) c.each.invariant refl
           (sym w.if-not-contains_key.ensures) name
-          ∙ ap (λ z. place_of z name) (sym more)
+          ∙ ap (λ z. block_places z name) (sym more)
     ]

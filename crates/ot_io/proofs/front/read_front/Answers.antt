@@ -6,8 +6,8 @@ use Rattle.ot_io.proofs.Reading.{HasRead-of, HasRead-front, HasRead-whole, Consu
 use Rattle.ot_io.proofs.front.read_front.Goals as goal
 use Rattle.ot_io.proofs.front.read_front.Goals.{else-reading-test, then-reading-test+in-Ok-eq0}
 
-pub returns-in_default-clause-read : goal.returns-in_default-clause-read
-returns-in_default-clause-read g c =
+pub returns-in-Err-extend_from_slice-clause-read : goal.returns-in-Err-extend_from_slice-clause-read
+returns-in-Err-extend_from_slice-clause-read g c =
     let bytes = c.reading.bytes.items in
     let more = take c.in-Ok.count c.read.new.buf in
     let few : length (bytes ++ more) ≤ c.args.max_bytes + 1 =

@@ -6,6 +6,7 @@ use Rattle.ot_kernel.specs.Refusals.{of_subst}
 use Rattle.ot_kernel.proofs.Refusals.{handed_on}
 use Rattle.ot_kernel.proofs.PutConstants.{later_names, only_memory, new_sequent}
 use Rattle.ot_kernel.proofs.defining.list_theorem.Goals as goal
+use Rattle.ot_logic.specs.RanOut.{ran_out}
 
 pub returns-in_err-s-clause-later : goal.returns-in_err-s-clause-later
 returns-in_err-s-clause-later c = later_names c.args.names.now c.args.cs.now c.args.terms.now c.constants.new.terms
@@ -22,7 +23,7 @@ returns-in_err-concl-clause-err c =
     c.constants.ensures.grown c.in_ok-s.s c.in_ok-s.ensures.types c.in_ok-s.ensures.terms c.args.th.now.concl
     c.requires.inside.concl c.in_err-concl.field-0.0
     (λ e. c.in_err-concl.ensures.nesting (ap Err e)) (λ e. c.in_err-concl.ensures.redex (ap Err e)) in
-    handed_on c.from_residual-in_err-concl.result (of_subst c.in_err-concl.field-0.0) (λ e. e ≡ Memory)
+    handed_on c.from_residual-in_err-concl.result (of_subst c.in_err-concl.field-0.0) (λ e. e ≡ Memory ran_out)
     c.from_residual-in_err-concl.ensures.1 why
 
 pub returns-in_err-concl-clause-later : goal.returns-in_err-concl-clause-later

@@ -3,7 +3,7 @@ use Rattle.ot_scan.specs.Lines.{lines_of}
 use Rattle.std.proofs.Common.{◌≡◌, refl, subst}
 use Rattle.std.specs.Prelude.{IfOk, Ok, Err}
 use Rattle.ot_machine.specs.Contexts.{context_of}
-use Rattle.ot_machine.specs.Meaning.{state_of}
+use Rattle.ot_machine.specs.Meaning.{machine_state}
 use Rattle.ot_machine.proofs.Led.{read-leads}
 use Rattle.ot_link.proofs.Ending.{article-ended, article-stopped}
 use Rattle.ot_link.proofs.Lawful.{article-left, article-refused}
@@ -36,8 +36,8 @@ returns-in-Ok-clause-left g c =
     article-left s0 c.run_article.new.session c.new-machine.result c.run_article.new.self c.args.context.now
     c.fresh_law.ensures.written c.lines_law.ensures.written c.lines_law.ensures.said
     (c.new-machine.ensures.fresh s0) c.requires.ready
-    (read-leads (context_of s0 c.args.context.now) (state_of s0 c.new-machine.result) c.run_article.new.session.kernel (Ok (tt {0}))
-    c.args.setting.limits.now.article_bytes (state_of c.run_article.new.session c.run_article.new.self) _ _
+    (read-leads (context_of s0 c.args.context.now) (machine_state s0 c.new-machine.result) c.run_article.new.session.kernel (Ok (tt {0}))
+    c.args.setting.limits.now.article_bytes (machine_state c.run_article.new.session c.run_article.new.self) _ _
     c.in-Ok.ensures.runs) c.in-Ok.ensures.grown c.in-Ok.ensures.of
     c.copied.result
     (subst (λ xs. IfOk c.copied.result (λ copy. copy.items ≡ xs)) c.exports.ensures c.copied.ensures.copy)
@@ -49,7 +49,7 @@ returns-clause-left g c =
     article-refused s0 c.run_article.new.session c.new-machine.result c.run_article.new.self c.args.context.now
     c.fresh_law.ensures.written c.lines_law.ensures.written c.lines_law.ensures.said
     (c.new-machine.ensures.fresh s0) c.requires.ready
-    (read-leads (context_of s0 c.args.context.now) (state_of s0 c.new-machine.result) c.run_article.new.session.kernel (Err c.in-Err.fault)
-    c.args.setting.limits.now.article_bytes (state_of c.run_article.new.session c.run_article.new.self) _ _
+    (read-leads (context_of s0 c.args.context.now) (machine_state s0 c.new-machine.result) c.run_article.new.session.kernel (Err c.in-Err.fault)
+    c.args.setting.limits.now.article_bytes (machine_state c.run_article.new.session c.run_article.new.self) _ _
     c.in-Err.ensures.runs) c.in-Err.ensures.grown c.in-Err.ensures.of
     c.in-Err.fault c.in-Err.ensures.symbols

@@ -15,7 +15,7 @@ use Rattle.ot_kernel.specs.State.{name_at}
 use Rattle.ot_kernel.specs.Alike.{AreFirstPlaces}
 use Rattle.ot_theory.specs.Answers.{theory_of, block_of, blocks_of, tags_of}
 use Rattle.ot_blocks.specs.Answers.{plan_of}
-use Rattle.ot_blocks.specs.Structure.{place_of}
+use Rattle.ot_blocks.specs.Structure.{block_places}
 use Rattle.ot_blocks.specs.declared.fault.StructureFault.TheVariants.{PackageCycle, PackageDepth}
 use Rattle.ot_machine.specs.Meaning.{export_of, concls_of, run_of, IsExportIn}
 use Rattle.ot_machine.specs.States.{Export}
@@ -459,7 +459,7 @@ run_blocks-returns-clause-comes g t c =
     let order = c.args.plan.now.order.items in
     let none : drop c.each.place-index order ≡ [] = drop_all c.each.place-index order
     (omega (arith, c.each-test.false, ap length c.deref-place-items.ensures.value)) in
-    let exports : exports_at (done_of mid c.each.done) (place_of (blocks_of blocks) (codes "main")) ≡ map (export_of mid) c.in_ok-exports-2.exports.items =
+    let exports : exports_at (done_of mid c.each.done) (block_places (blocks_of blocks) (codes "main")) ≡ map (export_of mid) c.in_ok-exports-2.exports.items =
     ap (exports_at (done_of mid c.each.done)) (place-at blocks (codes "main"))
     ∙ sym (exports-as mid c.each.done (position (λ b. bytes_eq b.name.now (codes "main")) blocks))
     ∙ ap (map (export_of mid)) (sym c.in_ok-exports-2.ensures) in

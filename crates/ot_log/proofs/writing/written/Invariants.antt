@@ -1,6 +1,6 @@
 use Rattle.std.proofs.Common.{map, take}
 use Rattle.ot_machine.specs.Meaning.{origin_of}
-use Rattle.ot_proof_log.specs.Writing.{log, nothing_written, write_definitions}
+use Rattle.ot_log_law.specs.Writing.{log, nothing_written, write_definitions}
 use Rattle.ot_log.specs.Keeping.{Holds, IsWriter}
 use Rattle.ot_log.proofs.writing.written.Given as goal
 

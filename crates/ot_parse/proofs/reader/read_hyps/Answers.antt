@@ -2,7 +2,7 @@ use Rattle.std.specs.Prelude.{codes}
 use Rattle.std.proofs.Common.{◌≡◌, ◌+◌, ◌∙◌, sym, subst, ap, arith, map, length}
 use Rattle.ot_logic.specs.PlainTrees.{term_of_tree}
 use Rattle.ot_forms.specs.Reading.{Reading}
-use Rattle.ot_parse.specs.Gives.{Gives}
+use Rattle.ot_parse.specs.Gives.{IsReadAs}
 use Rattle.ot_parse.specs.ReadLines.{Kept, kept_of, hyps_meant}
 use Rattle.ot_parse.proofs.Lengths.{literal-length}
 use Rattle.ot_parse.proofs.WholeLines.{nothing-hyps, bar-halts, bar-goes, some-hyps}
@@ -24,7 +24,7 @@ returns-in-Ok-clause-read c =
 pub returns-else-byte-eq124-clause-read : goal.returns-else-byte-eq124-clause-read
 returns-else-byte-eq124-clause-read c =
     let e = c.in-Some.ensures.cases.0 in
-    subst (λ (o : Reading Kept). Gives (λ x. kept_of x.0) (λ x. x.1.now) c.read_some_hyps.result o)
+    subst (λ (o : Reading Kept). IsReadAs (λ x. kept_of x.0) (λ x. x.1.now) c.read_some_hyps.result o)
     (sym (ap (hyps_meant c.args.notation.now) e ∙ some-hyps c.args.notation.now c.in-Some.byte.now
     c.in-Some.field-0-1.now c.args.line.now (sym e) c.if-byte-eq124.false)) c.read_some_hyps.ensures.read
 

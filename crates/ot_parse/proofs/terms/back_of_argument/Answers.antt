@@ -1,14 +1,17 @@
 use Rattle.ot_parse.specs.Values.{meant_of}
 use Rattle.ot_parse.proofs.TypeFronts.{not-equal}
 use Rattle.ot_parse.proofs.TermBacks.{nothing-further, argument-further, argument-halts, argument-whole, is-equal}
+use Rattle.std.specs.Prelude.{codes}
+use Rattle.std.proofs.Common.{◌≡◌, ◌+◌, length, arith}
+use Rattle.ot_parse.proofs.Lengths.{literal-length}
 use Rattle.ot_parse.proofs.terms.back_of_argument.Goals as goal
 
-pub returns-in-None : goal.returns-in-None
-returns-in-None c = λ m l k x w. nothing-further c.args.total c.args.notation.now m l c.args.at c.args.place
+pub returns-in-None-clause-read : goal.returns-in-None-clause-read
+returns-in-None-clause-read c = λ m l k x w. nothing-further c.args.total c.args.notation.now m l c.args.at c.args.place
     (meant_of c.args.function) (meant_of c.args.part) c.args.text.now c.in-None.ensures.cases
 
-pub returns-then-byte-eq32 : goal.returns-then-byte-eq32
-returns-then-byte-eq32 c = λ m l k x w.
+pub returns-then-byte-eq32-clause-read : goal.returns-then-byte-eq32-clause-read
+returns-then-byte-eq32-clause-read c = λ m l k x w.
     let e = c.in-Some.ensures.cases.0 in
     let argument = c.whole-argument.ensures l x in
     let made = c.in_ok-applied.ensures l k argument.kept in
@@ -18,18 +21,25 @@ returns-then-byte-eq32 c = λ m l k x w.
     (rw e at w) (is-equal c.in-Some.byte.now 32 c.if-byte-eq32.true) c.place_of-place.ensures argument made
     (c.whole-function.ensures l made.kept))
 
-pub returns-in-Err : goal.returns-in-Err
-returns-in-Err c = λ m l k x w.
+pub returns-in-Err-clause-read : goal.returns-in-Err-clause-read
+returns-in-Err-clause-read c = λ m l k x w.
     let e = c.in-Some.ensures.cases.0 in
     rw e (argument-halts c.args.total c.args.notation.now m l c.args.at c.args.place (meant_of c.args.function)
     (meant_of c.args.part) c.in-Some.byte.now c.in-Some.after.now c.in-Err.halt
     (not-equal c.in-Some.byte.now 32 c.if-byte-eq32.false) (rw e at c.in-Err.ensures))
 
-pub returns-in-Ok : goal.returns-in-Ok
-returns-in-Ok c = λ m l k x w.
+pub returns-in-Ok-clause-read : goal.returns-in-Ok-clause-read
+returns-in-Ok-clause-read c = λ m l k x w.
     let e = c.in-Some.ensures.cases.0 in
     let argument = c.whole-argument.ensures l x in
     rw e (argument-whole c.args.total c.args.notation.now m l c.args.at c.args.place c.args.function c.args.part
     c.whole-argument.result c.in_ok-applied.applied c.in-Some.byte.now c.in-Some.after.now c.in-Ok.rest.now
     (rw e at w) (not-equal c.in-Some.byte.now 32 c.if-byte-eq32.false) (rw e at c.in-Ok.ensures) argument
     (c.in_ok-applied.ensures l k argument.kept))
+
+pub returns-then-byte-eq32-clause-shorter : goal.returns-then-byte-eq32-clause-shorter
+returns-then-byte-eq32-clause-shorter c = let w = c.in-Some.ensures.cases.1 in omega (arith, w)
+
+pub returns-in-Ok-clause-shorter : goal.returns-in-Ok-clause-shorter
+returns-in-Ok-clause-shorter c = let a : length c.args.text.now ≡ 1 + length c.in-Ok.rest.now =
+    literal-length (codes ")") c.args.text.now c.in-Ok.rest.now c.in-Ok.ensures in omega (arith, a)

@@ -1,40 +1,52 @@
-use Rattle.std.proofs.Common.{arith, subst}
+use Rattle.std.proofs.Common.{arith, subst, length}
 use Rattle.ot_forms.specs.Reading.{Got}
 use Rattle.ot_parse.specs.Values.{meant_of}
-use Rattle.ot_parse.specs.TermCode.{reversed}
+use Rattle.ot_parse.specs.TermCode.{reversed, EndsWithin}
 use Rattle.ot_parse.proofs.TermLoops.{IsClosedTo, closing-start, closing-step, closing-halts, closing-end}
 use Rattle.ot_parse.proofs.terms.close.Goals as goal
 
 pub open-init : goal.open-init
-open-init c = λ k m w. closing-start c.args.total c.args.notation.now c.args.frames.now.items c.args.part
-    c.args.text.now k m w
+open-init c = (
+  (λ k m w. closing-start c.args.total c.args.notation.now c.args.frames.now.items c.args.part c.args.text.now k m w),
+  omega arith,
+)
 
-pub returns-in-None : goal.returns-in-None
-returns-in-None c = λ k m w.
+pub returns-in-None-clause-read : goal.returns-in-None-clause-read
+returns-in-None-clause-read c = λ k m w.
     let d = c.in-None.ensures.cases.0 in let f = c.open.frames.ok.0 in
     closing-end c.args.total c.args.notation.now (reversed c.args.frames.now.items)
     (Got (meant_of c.args.part) c.args.text.now) c.open.frames.items c.open.part c.open.rest.now
-    (omega (arith, d, f)) (c.open.invariant k m w)
+    (omega (arith, d, f)) (c.open.invariant.0 k m w)
 
-pub returns-in-Err : goal.returns-in-Err
-returns-in-Err c = λ k m w.
+pub returns-in-Err-clause-read : goal.returns-in-Err-clause-read
+returns-in-Err-clause-read c = λ k m w.
     closing-halts c.args.total c.args.notation.now (reversed c.args.frames.now.items)
     (Got (meant_of c.args.part) c.args.text.now) c.open.frames.items c.pop.new.self.items c.in-Some.inside
     c.open.part c.open.rest.now
-    c.in-Some.ensures.items (c.open.invariant k m w) c.in-Err.halt c.in-Err.ensures
+    c.in-Some.ensures.items (c.open.invariant.0 k m w) c.in-Err.halt c.in-Err.ensures.read
 
-pub returns-in-Ok-Further : goal.returns-in-Ok-Further
-returns-in-Ok-Further c = λ k m w.
+pub returns-in-Ok-Further-clause-read : goal.returns-in-Ok-Further-clause-read
+returns-in-Ok-Further-clause-read c = λ k m w.
     let os = reversed c.args.frames.now.items in let o = Got (meant_of c.args.part) c.args.text.now in
     subst (IsClosedTo c.args.total c.args.notation.now os o c.pop.new.self.items) c.in-Ok-Further.field-0-is
     (closing-step c.args.total c.args.notation.now os o c.open.frames.items c.pop.new.self.items c.in-Some.inside
-    c.open.part c.open.rest.now c.in-Some.ensures.items (c.open.invariant k m w) c.in-Ok-Further.field-0
-    c.in-Ok-Further.ensures)
+    c.open.part c.open.rest.now c.in-Some.ensures.items (c.open.invariant.0 k m w) c.in-Ok-Further.field-0
+    c.in-Ok-Further.ensures.read)
 
 pub open-preserved : goal.open-preserved
-open-preserved c = λ k m w.
-    let os = reversed c.args.frames.now.items in let o = Got (meant_of c.args.part) c.args.text.now in
-    subst (IsClosedTo c.args.total c.args.notation.now os o c.pop.new.self.items) c.in-Ok-Whole.field-0-is
-    (closing-step c.args.total c.args.notation.now os o c.open.frames.items c.pop.new.self.items c.in-Some.inside
-    c.open.part c.open.rest.now c.in-Some.ensures.items (c.open.invariant k m w) c.in-Ok-Whole.field-0
-    c.in-Ok-Whole.ensures)
+open-preserved c =
+    let b = subst (EndsWithin (length c.open.rest.now)) c.in-Ok-Whole.field-0-is c.in-Ok-Whole.ensures.shorter in
+    let v = c.open.invariant.1 in (
+      (λ k m w.
+          let os = reversed c.args.frames.now.items in let o = Got (meant_of c.args.part) c.args.text.now in
+          subst (IsClosedTo c.args.total c.args.notation.now os o c.pop.new.self.items) c.in-Ok-Whole.field-0-is
+          (closing-step c.args.total c.args.notation.now os o c.open.frames.items c.pop.new.self.items
+          c.in-Some.inside c.open.part c.open.rest.now c.in-Some.ensures.items (c.open.invariant.0 k m w)
+          c.in-Ok-Whole.field-0 c.in-Ok-Whole.ensures.read)),
+      omega (arith, b, v),
+    )
+
+pub returns-in-Ok-Further-clause-shorter : goal.returns-in-Ok-Further-clause-shorter
+returns-in-Ok-Further-clause-shorter c =
+    let b = subst (EndsWithin (length c.open.rest.now)) c.in-Ok-Further.field-0-is c.in-Ok-Further.ensures.shorter in
+    let v = c.open.invariant.1 in omega (arith, b, v)

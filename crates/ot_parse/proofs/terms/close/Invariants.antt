@@ -7,10 +7,10 @@ use Rattle.ot_parse.proofs.TermLoops.{IsClosing}
 use Rattle.ot_parse.proofs.terms.close.Given as goal
 
 abbrev pub invariant-open : goal.invariant-open
-invariant-open l = AreKept (reversed l.initial.frames.items)
+invariant-open l = (AreKept (reversed l.initial.frames.items)
     → IsMeant (around (frames_of l.initial.frames.items)) l.initial.part → length l.text ≤ l.total
     → IsClosing l.total l.notation (reversed l.initial.frames.items) (Got (meant_of l.initial.part) l.text)
-    l.frames.items l.part l.rest
+    l.frames.items l.part l.rest) × (length l.rest ≤ length l.text)
 
 abbrev pub decreases-open : goal.decreases-open
 decreases-open l = length l.frames.items

@@ -4,7 +4,7 @@ use Rattle.std.proofs.lemmas.List.{take_all}
 use Rattle.ot_logic.specs.Hol.{used}
 use Rattle.ot_logic.specs.Naming.{names}
 use Rattle.ot_kernel.specs.Definitions.{definition_at}
-use Rattle.ot_pretty.specs.Run.{Adds}
+use Rattle.ot_pretty.specs.Run.{HasMoreTerms}
 use Rattle.ot_pretty.proofs.Roots.{adds-nothing, definitions-more, take-item}
 use Rattle.ot_pretty.proofs.symbols.add_definitions.Goals as goal
 
@@ -21,7 +21,7 @@ loop-definition-preserved c =
 
 pub returns : goal.returns
 returns c =
-    subst (λ ds. Adds c.args.kernel.now c.args.roots.now.items c.loop-definition.roots.items
+    subst (λ ds. HasMoreTerms c.args.kernel.now c.args.roots.now.items c.loop-definition.roots.items
     (flat_map (used names) ds))
     (ap (map (definition_at c.args.kernel.now))
     (take_all c.loop-definition.definition-index c.definitions-definitions.result.now (omega arith))

@@ -3,7 +3,7 @@ use Rattle.std.proofs.lemmas.List.{take_all}
 use Rattle.ot_logic.specs.Hol.{symbols_in}
 use Rattle.ot_logic.specs.Naming.{names}
 use Rattle.ot_kernel.specs.State.{theorem_at}
-use Rattle.ot_pretty.specs.Run.{Adds}
+use Rattle.ot_pretty.specs.Run.{HasMoreTerms}
 use Rattle.ot_pretty.proofs.Roots.{adds-nothing, theorems-more}
 use Rattle.ot_pretty.proofs.symbols.add_theorems.Goals as goal
 
@@ -18,6 +18,6 @@ loop-th-preserved c =
 
 pub returns : goal.returns
 returns c =
-    subst (λ l. Adds c.args.kernel.now c.args.roots.now.items c.loop-th.roots.items
+    subst (λ l. HasMoreTerms c.args.kernel.now c.args.roots.now.items c.loop-th.roots.items
     (symbols_in names (map (theorem_at c.args.kernel.now) l)))
     (take_all c.loop-th.th-index c.args.theorems.now (omega arith)) c.loop-th.invariant

@@ -1,9 +1,9 @@
 use Rattle.std.proofs.Common.{ℕ, List}
 use Rattle.std.proofs.lemmas.Result.{err_from_is_err_and}
 use Rattle.ot_io.specs.Causes.{CountRose}
-use Rattle.ot_program.specs.Tasks.{RunSample, MakeSample, CheckLog, ShowReadable}
+use Rattle.ot_program.specs.Tasks.{RunSample, MakeSample, CheckLog}
 use Rattle.ot_program.specs.Answer.{FileFailed}
-use Rattle.ot_program.specs.Verdicts.{job_task, end_of, noted_end_of, log_end_of}
+use Rattle.ot_program.specs.Verdicts.{log_end_of}
 use Rattle.ot_program.proofs.Options.{ok_always}
 use Rattle.ot_program.proofs.Worlds.{is_told, world_map, world_none}
 use Rattle.ot_program.proofs.VerdictLemmas.{task_verdict, last_path, unfailing}
@@ -12,25 +12,13 @@ use Rattle.ot_program.proofs.program.run_task.Goals as goal
 -- ---- an input
 
 pub returns-in_ok-session-in-RunInput-clause-verdict : goal.returns-in_ok-session-in-RunInput-clause-verdict
-returns-in_ok-session-in-RunInput-clause-verdict g c =
-    let I : Type 0 = CountRose (g.S.Source.faults c.args.input.now) (g.S.Source.faults c.run_input-ran.new.input) in
-    let F : List ℕ → Type 0 = FileFailed (g.F.Source.at c.run_input-ran.new.files)
-    (g.F.Source.faults c.args.files.now) (g.F.Source.faults c.run_input-ran.new.files) in
-    let Q : Type 0 = CountRose (g.F.Source.misses c.args.files.now) (g.F.Source.misses c.run_input-ran.new.files) in
-    rw c.in-RunInput.is (λ told may. world_map told (g.S.Source.left c.args.input.now)
-    (g.S.Source.left c.run_input-ran.new.input) _ _
-    (λ May ended. task_verdict I F Q (job_task c.in-RunInput.job) May
-    (end_of c.run_input-ran.new.session c.run_input-ran.result) c.verdict_on.result c.verdict_on.ensures ended)
-    (c.run_input-ran.ensures.ran told may))
+returns-in_ok-session-in-RunInput-clause-verdict g c = rw c.in-RunInput.is c.job_in.ensures.verdict
 
 pub returns-in_ok-session-in-RunInput-clause-at : goal.returns-in_ok-session-in-RunInput-clause-at
-returns-in_ok-session-in-RunInput-clause-at g c =
-    rw c.in-RunInput.is (last_path _ (job_task c.in-RunInput.job)
-    (end_of c.run_input-ran.new.session c.run_input-ran.result) c.verdict_on.result c.verdict_on.ensures
-    c.run_input-ran.ensures.at)
+returns-in_ok-session-in-RunInput-clause-at g c = rw c.in-RunInput.is c.job_in.ensures.at
 
 pub returns-in_ok-session-in-RunInput-clause-other : goal.returns-in_ok-session-in-RunInput-clause-other
-returns-in_ok-session-in-RunInput-clause-other g c = rw c.in-RunInput.is c.run_input-ran.ensures.other
+returns-in_ok-session-in-RunInput-clause-other g c = rw c.in-RunInput.is c.job_in.ensures.other
 
 -- ---- a log
 
@@ -60,29 +48,13 @@ returns-in-CheckLog-clause-other g c = rw c.in-CheckLog.is c.check_log-checked.e
 -- ---- a run that is shown in readable form
 
 pub returns-in_ok-session-in-ShowReadable-clause-verdict : goal.returns-in_ok-session-in-ShowReadable-clause-verdict
-returns-in_ok-session-in-ShowReadable-clause-verdict g c =
-    let packages = c.in-ShowReadable.packages.now in
-    let path = c.in-ShowReadable.path.now in
-    let I : Type 0 = CountRose (g.S.Source.faults c.args.input.now) (g.S.Source.faults c.run_noted-ran.new.input) in
-    let F : List ℕ → Type 0 = FileFailed (g.F.Source.at c.run_noted-ran.new.files)
-    (g.F.Source.faults c.args.files.now) (g.F.Source.faults c.run_noted-ran.new.files) in
-    let Q : Type 0 = CountRose (g.F.Source.misses c.args.files.now) (g.F.Source.misses c.run_noted-ran.new.files) in
-    rw c.in-ShowReadable.is (λ told may. world_map told (g.S.Source.left c.args.input.now)
-    (g.S.Source.left c.run_noted-ran.new.input) _ _
-    (λ May ended. task_verdict I F Q (ShowReadable packages path) May
-    (noted_end_of c.run_noted-ran.new.session c.run_noted-ran.result) c.readable_verdict.result
-    (c.readable_verdict.ensures packages) ended) (c.run_noted-ran.ensures.ran told may))
+returns-in_ok-session-in-ShowReadable-clause-verdict g c = rw c.in-ShowReadable.is c.readable_in.ensures.verdict
 
 pub returns-in_ok-session-in-ShowReadable-clause-at : goal.returns-in_ok-session-in-ShowReadable-clause-at
-returns-in_ok-session-in-ShowReadable-clause-at g c =
-    let packages = c.in-ShowReadable.packages.now in
-    let path = c.in-ShowReadable.path.now in
-    rw c.in-ShowReadable.is (last_path _ (ShowReadable packages path)
-    (noted_end_of c.run_noted-ran.new.session c.run_noted-ran.result) c.readable_verdict.result
-    (c.readable_verdict.ensures packages) c.run_noted-ran.ensures.at)
+returns-in_ok-session-in-ShowReadable-clause-at g c = rw c.in-ShowReadable.is c.readable_in.ensures.at
 
 pub returns-in_ok-session-in-ShowReadable-clause-other : goal.returns-in_ok-session-in-ShowReadable-clause-other
-returns-in_ok-session-in-ShowReadable-clause-other g c = rw c.in-ShowReadable.is c.run_noted-ran.ensures.other
+returns-in_ok-session-in-ShowReadable-clause-other g c = rw c.in-ShowReadable.is c.readable_in.ensures.other
 
 -- ---- a sample, for which nothing is read
 

@@ -7,7 +7,7 @@ use Rattle.ot_theory.specs.Answers.{tags_of}
 use Rattle.ot_repo.specs.Required.{is_requirement}
 use Rattle.ot_repo.specs.Laws.{IsWalked}
 use Rattle.ot_repo.specs.Reading.{IsTagFile}
-use Rattle.ot_repo.specs.Answers.{Gives, names_of}
+use Rattle.ot_repo.specs.Answers.{IsAsStated, names_of}
 use Rattle.ot_repo.proofs.Tags.{with_tags, without_tags}
 use Rattle.ot_repo.proofs.Reached.{fails_more, if_fails, inside_fails, own_file, walked_file}
 use Rattle.ot_repo.proofs.packages.required_by.Goals as goal
@@ -49,7 +49,7 @@ returns-then-has_requirement-clause-required g c =
     let over = rw c.deref-then-has_requirement.ensures.value at c.required_over.ensures.required in
     Files-next c.in_ok-text.ensures.kept c.in_ok-text.ensures.text over
     (λ folder read answer. record {
-      gives = subst (Gives names_of c.required_over.result)
+      gives = subst (IsAsStated names_of c.required_over.result)
           (with_tags folder max packages path text theory read parsed some) answer.gives;
       fails = if_fails (IsTagFile folder max packages (filter is_requirement (tags_of theory.tags.items)))
           (IsWalked folder max packages path) c.required_over.result

@@ -5,7 +5,7 @@ use Rattle.std.proofs.lemmas.Result.{err_from_is_err_and}
 use Rattle.ot_io.proofs.Readings.{Files-map, Files-next}
 use Rattle.ot_theory.specs.Answers.{tags_of}
 use Rattle.ot_repo.specs.Required.{is_requirement, edges_of, required_over}
-use Rattle.ot_repo.specs.Answers.{Gives, names_of}
+use Rattle.ot_repo.specs.Answers.{IsAsStated, names_of}
 use Rattle.ot_repo.specs.Reading.{listed_in, edges_left, IsReachedFile, IsTagFile}
 use Rattle.ot_repo.proofs.Reached.{fails_more, if_fails, inside_fails, list_file, index_is, reached_file, listed_walk}
 use Rattle.ot_repo.proofs.packages.required_over.Goals as goal
@@ -54,7 +54,7 @@ returns-clause-required g c =
     let index = index_is folder max packages (string_bytes c.in_ok-index_path.index_path) c.in_ok-text.text.items
     listed c.in_ok-index_path.ensures read lists in
     record {
-      gives = subst (Gives names_of c.walk.result)
+      gives = subst (IsAsStated names_of c.walk.result)
           (listed_walk folder max packages listed path tags start are index
           ∙ ap (λ z. required_over folder max packages z tags) c.in_ok-path.ensures.ok)
           walks.gives;

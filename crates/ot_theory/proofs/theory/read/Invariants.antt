@@ -2,7 +2,7 @@ use Rattle.std.proofs.Common.{◌≡◌, ◌≤◌, ◌-◌, length}
 use Rattle.ot_lines.specs.Pieces.{pieces}
 use Rattle.ot_theory.specs.Lines.{lines_at, lines_of, line_count}
 use Rattle.ot_theory.specs.Theory.{read_lines, no_lines}
-use Rattle.ot_theory.specs.Reading.{state_of, IsReading}
+use Rattle.ot_theory.specs.Reading.{reading_state, IsReading}
 use Rattle.ot_theory.proofs.theory.read.Given as goal
 
 abbrev pub invariant-lines : goal.invariant-lines
@@ -11,7 +11,7 @@ invariant-lines l = record {
   numbered : l.number ≤ l.at;
   sets : IsReading l.reading l.current;
   count : line_count l.text l.at l.number ≡ length (pieces l.text);
-  so_far : read_lines (lines_at l.text l.at l.number) (state_of l.reading l.current)
+  so_far : read_lines (lines_at l.text l.at l.number) (reading_state l.reading l.current)
       ≡ read_lines (lines_of l.text) no_lines;
 }
 

@@ -3,7 +3,7 @@ use Rattle.std.proofs.Common.{subst}
 use Rattle.std.proofs.lemmas.Result.{err_from_is_err_and}
 use Rattle.ot_io.proofs.Keeping.{KeepsSource-then}
 use Rattle.ot_logic.specs.Naming.{names}
-use Rattle.ot_records.specs.Records.{form}
+use Rattle.ot_log_format.specs.Records.{form}
 use Rattle.ot_verify.specs.Logged.{RecordedFrom}
 use Rattle.ot_verify.specs.Going.{BeginsFrom}
 use Rattle.ot_verify.proofs.Following.{none-checked, follows-header, header-refused, word-refused, follows-end}

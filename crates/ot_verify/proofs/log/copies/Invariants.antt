@@ -1,6 +1,6 @@
 use Rattle.std.specs.List.{All}
 use Rattle.std.proofs.Common.{◌≡◌, map, take}
-use Rattle.ot_rules.specs.Statements.{sequent_at, HasStatement}
+use Rattle.ot_log_rules.specs.Statements.{sequent_at, HasStatement}
 use Rattle.ot_verify.proofs.log.copies.Given as goal
 
 abbrev pub invariant-loop-statement : goal.invariant-loop-statement

@@ -1,4 +1,4 @@
-use Rattle.ot_records.specs.Records.{AskType}
+use Rattle.ot_log_format.specs.Records.{AskType}
 use Rattle.ot_verify.proofs.Collecting.{both-read, first-stop, second-stop}
 use Rattle.ot_verify.proofs.operands.named_type.Goals as goal
 

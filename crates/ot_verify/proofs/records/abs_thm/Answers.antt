@@ -1,8 +1,8 @@
 use Rattle.std.proofs.Common.{refl}
 use Rattle.ot_logic.specs.Naming.{names}
-use Rattle.ot_records.specs.Steps.{abs_thm_step}
-use Rattle.ot_records.specs.State.{makes_sequent}
-use Rattle.ot_records.specs.Records.{Makes, AskSequent}
+use Rattle.ot_log_format.specs.Steps.{abs_thm_step}
+use Rattle.ot_log_format.specs.State.{makes_sequent}
+use Rattle.ot_log_format.specs.Records.{Makes, AskSequent}
 use Rattle.ot_verify.proofs.Recording.{answered-then, answered-stop, made-settled}
 use Rattle.ot_verify.proofs.records.abs_thm.Goals as goal
 

@@ -2,7 +2,7 @@ use Rattle.std.specs.Prelude.{Err}
 use Rattle.std.proofs.Common.{refl, subst}
 use Rattle.ot_logic.specs.Naming.{names}
 use Rattle.ot_logic.specs.Trees.{Bound}
-use Rattle.ot_records.specs.State.{makes_term}
+use Rattle.ot_log_format.specs.State.{makes_term}
 use Rattle.ot_verify.specs.Logged.{MadeBy}
 use Rattle.ot_verify.proofs.Recording.{answered-then, answered-stop, made-settled}
 use Rattle.ot_verify.proofs.records.bound.Goals as goal

@@ -1,8 +1,8 @@
 use Rattle.std.proofs.Common.{refl}
 use Rattle.ot_logic.specs.Naming.{names}
 use Rattle.ot_logic.specs.Trees.{Free}
-use Rattle.ot_records.specs.State.{makes_term}
-use Rattle.ot_records.specs.Records.{Makes}
+use Rattle.ot_log_format.specs.State.{makes_term}
+use Rattle.ot_log_format.specs.Records.{Makes}
 use Rattle.ot_verify.proofs.Recording.{answered-then, answered-stop, made-settled}
 use Rattle.ot_verify.proofs.records.free.Goals as goal
 

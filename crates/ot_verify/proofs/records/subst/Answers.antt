@@ -1,6 +1,6 @@
 use Rattle.std.proofs.Common.{◌∙◌, refl, sym, subst}
 use Rattle.ot_logic.specs.Names.{Name}
-use Rattle.ot_records.specs.State.{LogState}
+use Rattle.ot_log_format.specs.State.{LogState}
 use Rattle.ot_verify.specs.Asking.{IsAt, AreEach}
 use Rattle.ot_verify.specs.Logged.{IsTypePair, IsTermPair}
 use Rattle.ot_verify.specs.Later.{type_pair-later}

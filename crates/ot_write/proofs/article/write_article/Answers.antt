@@ -3,7 +3,7 @@ use Rattle.std.specs.List.{All, AllByRecursion, flat_map}
 use Rattle.ot_trace.specs.Reach.{MarksReached}
 use Rattle.ot_trace.specs.Uses.{AreCounts}
 use Rattle.ot_write.specs.Bytes.{AreRootsInside, Writes}
-use Rattle.ot_write.specs.Emitting.{counted_bytes, given, root_steps, taken}
+use Rattle.ot_write.specs.Emitting.{counted_bytes, given, root_steps, marked_of}
 use Rattle.ot_write.proofs.ByCounts.{counted-article, all-in, in-all, roots-in}
 use Rattle.ot_write.proofs.Taking.{taken-in}
 use Rattle.ot_write.proofs.Moving.{each-below}
@@ -59,7 +59,7 @@ returns c =
     (subst (λ l. AreCounts ts l c.deref-3.result.now c.in_ok-counts.counts.items)
     (c.deref-2.ensures.value ∙ c.in_ok-roots.ensures) c.in_ok-counts.ensures) in
     let counts : c.deref-4.result.now ≡ c.in_ok-counts.counts.items = c.deref-4.ensures.value in
-    let needed : c.deref-5.result.now ≡ taken c.in_ok-marks.marks.items ds = c.deref-5.ensures.value
+    let needed : c.deref-5.result.now ≡ marked_of c.in_ok-marks.marks.items ds = c.deref-5.ensures.value
     ∙ c.in_ok-needed.ensures in
     subst (λ x. Writes c.write_counted.result x c.args.max c.args.out.now.items c.write_counted.new.out.items)
     ((λ i. counted_bytes (given ns ts (counts i)) (needed i) es)

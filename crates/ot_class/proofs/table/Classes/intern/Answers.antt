@@ -1,14 +1,12 @@
-use Rattle.ot_class.specs.Table.{tree_of, AreBelow, Describes}
-use Rattle.ot_class.proofs.ClassLemmas.{node_eq, laws}
-use Rattle.ot_type.proofs.Entering.{entered, Entered}
+use Rattle.ot_class.proofs.Growing.{Put, put}
 use Rattle.ot_class.proofs.table.Classes.intern.Goals as goal
 
 -- what the insert leaves
-left : (c : goal.In_ok-index) → Entered tree_of AreBelow Describes node_eq c.args.self.now c.args.node
-    c.insert_full.new.self.entries c.in_ok-index.index
-left c = entered tree_of AreBelow Describes node_eq laws c.self.inside.nodes c.args.self.now c.self.view_is
-    c.self.invariant c.args.node c.beside_new-beside.result c.requires c.beside_new-beside.ensures
-    c.insert_full.new.self.entries c.in_ok-index.ensures.entries c.in_ok-index.index c.in_ok-index.ensures.index
+left : (c : goal.In_ok-index) → Put c.args.self.now c.self.inside.lists c.self.inside.maps c.self.inside.joins.entries
+    c.args.node c.insert_full.new.self.entries c.in_ok-index.index
+left c = put c.self.inside.lists c.self.inside.maps c.self.inside.joins.entries c.self.inside.shapes c.self.invariant
+    c.args.self.now c.self.view_is c.args.node c.requires c.insert_full.new.self.entries
+    c.in_ok-index.ensures.entries c.in_ok-index.index c.in_ok-index.ensures.index
 
 pub invariant_of-self-2 : goal.invariant_of-self-2
 invariant_of-self-2 c = (left c).sound
@@ -16,8 +14,8 @@ invariant_of-self-2 c = (left c).sound
 pub returns-clause-ok : goal.returns-clause-ok
 returns-clause-ok c = (left c).found
 
-pub returns-clause-extends : goal.returns-clause-extends
-returns-clause-extends c = (left c).extends
+pub returns-clause-grows : goal.returns-clause-grows
+returns-clause-grows c = (left c).grows
 
 pub returns-clause-once : goal.returns-clause-once
-returns-clause-once c = (left c).sound.injective
+returns-clause-once c = (left c).once

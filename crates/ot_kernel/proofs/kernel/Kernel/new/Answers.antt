@@ -17,5 +17,11 @@ invariant_of-result c =
       signature = search rules;
       placed = subst (λ (is : List ℕ). ArePlaces c.new-2.result.classes c.new-3.result.items is c.new-5.result)
           (sym c.new-4.ensures.items) none;
-      sound = search rules;
+      sound = record {
+        theorems = search (rules, c.new-3.ensures.items, c.new-4.ensures.items, c.new-6.ensures.items);
+        assumptions = search (rules, c.new-4.ensures.items);
+        accepted = search (rules, c.new-4.ensures.items, c.new-6.ensures.items);
+        names = search rules;
+        apart = search (rules, c.new-4.ensures.items);
+      };
     }

@@ -1,16 +1,17 @@
 use Rattle.std.proofs.Common.{◌≡◌, ℕ, ◌-◌, List, [], ◌∷◌, take, vec_len, ap, subst, arith, length, sym, ◌∙◌}
+use Rattle.std.specs.Result.{is_err}
 use Rattle.std.proofs.lemmas.List.{take_at, length-map}
 use Rattle.ot_kernel.specs.State.{State}
 use Rattle.ot_kernel.specs.Spelled.{sequent_of, state_of, IsKernel}
 use Rattle.ot_kernel.proofs.Later.{held_of}
 use Rattle.ot_kernel.proofs.Supposed.{Assumed, assumed, noted, pushed_items, unpushed_items}
 use Rattle.ot_kernel.proofs.kernel.Kernel.suppose.Goals as goal
-use Rattle.ot_kernel.proofs.kernel.Kernel.suppose.Goals.{Else-is_err}
+use Rattle.ot_kernel.proofs.kernel.Kernel.suppose.Goals.{In_default}
 
-count : (c : Else-is_err) → c.len.result ≡ length c.self.inside.theorems.items
+count : (c : In_default) → c.len.result ≡ length c.self.inside.theorems.items
 count c = omega (arith, c.len.ensures, c.self.inside.theorems.ok.0)
 
-added : (c : Else-is_err) → Assumed c.args.self.now c.self.inside.names c.self.inside.terms
+added : (c : In_default) → Assumed c.args.self.now c.self.inside.names c.self.inside.terms
     (record {
       theorems = c.push.new.self.items;
       assumptions = c.push-2.new.self.items;
@@ -20,7 +21,7 @@ added : (c : Else-is_err) → Assumed c.args.self.now c.self.inside.names c.self
     })
     c.args.theorem
 added c =
-    let pushed = pushed_items c.push-2.result _ _ _ (sym c.is_err.ensures.value ∙ c.if-is_err.false)
+    let pushed = pushed_items c.push-2.result _ _ _ (ap is_err c.in_default.is)
     c.push-2.ensures.items in
     let here : c.len-place.result ≡ length c.self.inside.assumptions.items =
     omega (arith, c.len-place.ensures, c.self.inside.assumptions.ok.0) in
@@ -36,12 +37,12 @@ invariant_of-self-in_err-push c =
     c.class-class.result c.len-place.result here c.in_ok-note.ensures.ok c.in_err-push.ensures.items
     c.self.invariant
 
-pub invariant_of-self-then-is_err : goal.invariant_of-self-then-is_err
-invariant_of-self-then-is_err c =
+pub invariant_of-self-in-Err : goal.invariant_of-self-in-Err
+invariant_of-self-in-Err c =
     let here : c.len-place.result ≡ length c.self.inside.assumptions.items =
     omega (arith, c.len-place.ensures, c.self.inside.assumptions.ok.0) in
     let kept : c.push-2.new.self.items ≡ c.self.inside.assumptions.items =
-    unpushed_items c.push-2.result _ _ _ (sym c.is_err.ensures.value ∙ c.if-is_err.true) c.push-2.ensures.items in
+    unpushed_items c.push-2.result _ _ _ (ap is_err c.in-Err.is) c.push-2.ensures.items in
     let back : c.pop.new.self.items ≡ c.self.inside.theorems.items =
     c.pop.ensures.rest
     ∙ ap (take (vec_len c.push.new.self - 1)) c.in_ok-push.ensures.items
@@ -56,8 +57,8 @@ invariant_of-self-then-is_err c =
     (noted c.self.inside.names c.self.inside.terms (held_of c.self.inside) c.pop.new.self.items c.note.new.self
     c.class-class.result c.len-place.result here c.in_ok-note.ensures.ok back c.self.invariant)
 
-pub invariant_of-self-else-is_err : goal.invariant_of-self-else-is_err
-invariant_of-self-else-is_err c = (added c).kernel
+pub invariant_of-self-in_default : goal.invariant_of-self-in_default
+invariant_of-self-in_default c = (added c).kernel
 
 pub returns-clause-ok : goal.returns-clause-ok
 returns-clause-ok c =

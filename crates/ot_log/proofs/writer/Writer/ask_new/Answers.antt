@@ -1,5 +1,5 @@
 use Rattle.std.proofs.Common.{◌++◌, ap, ◌∙◌, map, reverse}
-use Rattle.ot_words.proofs.Defining.{on-ok}
+use Rattle.ot_log_words.proofs.Defining.{on-ok}
 use Rattle.ot_log.specs.declared.worklist.Task.TheVariants as task
 use Rattle.ot_log.proofs.Worked.{asked-tasks, asked-cheaper, replaces-asked, replaces-none, cheaper-same}
 use Rattle.ot_log.proofs.writer.Writer.ask_new.Goals as goal
@@ -39,4 +39,4 @@ returns-in-None-clause-cheaper c = cheaper-same c.args.session.now c.args.work.n
 
 pub returns-in-None-clause-moves : goal.returns-in-None-clause-moves
 returns-in-None-clause-moves c =
-    replaces-none c.args.session.now c.args.self.now c.args.work.now.items _ c.in-None.ensures.none
+    replaces-none c.args.session.now c.args.self.now c.args.work.now.items c.args.id c.in-None.ensures.none

@@ -1,10 +1,12 @@
 use Rattle.std.proofs.Common.{subst, length}
 use Rattle.ot_machine.specs.Values.{value}
-use Rattle.ot_words.specs.Recording.{HasResult}
-use Rattle.ot_words.proofs.Defining.{on-ok}
+use Rattle.ot_log_words.specs.Recording.{HasResult}
+use Rattle.ot_log_words.proofs.Defining.{on-ok}
+use Rattle.ot_log.specs.Ready.{HasOperands}
 use Rattle.ot_log.specs.Working.{MakesTheorem}
 use Rattle.ot_log.proofs.Accepted.{few-operands}
 use Rattle.ot_log.proofs.Closed.{made-origin, made-inside, closed, put-writer}
+use Rattle.ot_log.proofs.Numbered.{have-places}
 use Rattle.ot_log.proofs.Worked.{not-made}
 use Rattle.ot_log.proofs.writer.Writer.close.Goals as goal
 
@@ -30,6 +32,13 @@ pub unreachable-requires-in_default : goal.unreachable-requires-in_default
 unreachable-requires-in_default c =
     not-made c.args.session.now c.args.id c.trace.result.now c.step.result.now c.trace.ensures c.step.ensures.origin
     c.in_default.not-Make c.requires.makes
+
+pub put-requires-clause-makes : goal.put-requires-clause-makes
+put-requires-clause-makes c =
+    subst MakesTheorem
+    (made-origin c.args.session.now c.args.id c.trace.result.now c.step.result.now c.in-Make.word
+    c.in-Make.operands c.as_slice.result.now c.trace.ensures c.step.ensures.origin c.in-Make.is c.as_slice.ensures)
+    c.requires.makes
 
 pub put-requires-clause-value : goal.put-requires-clause-value
 put-requires-clause-value c =
@@ -60,3 +69,14 @@ returns-clause-moves c =
     c.as_slice.result.now c.step.ensures.below c.in-Make.is c.as_slice.ensures c.requires.inside) c.args.id
     c.requires.inside
     e k) c.mark.ensures
+
+pub put-requires-clause-there : goal.put-requires-clause-there
+put-requires-clause-there c =
+    let s = c.args.session.now in
+    let ids = c.as_slice.result.now in
+    let e = made-origin s c.args.id c.trace.result.now c.step.result.now c.in-Make.word c.in-Make.operands ids
+    c.trace.ensures c.step.ensures.origin c.in-Make.is c.as_slice.ensures in
+    let k = c.requires.ready in
+    have-places s k.0 c.args.self.now k.1 k.2 ids
+    (made-inside (length s.trace) c.args.id c.step.result.now c.in-Make.word c.in-Make.operands
+    ids c.step.ensures.below c.in-Make.is c.as_slice.ensures c.requires.inside) (subst (HasOperands k.1) e k.3)

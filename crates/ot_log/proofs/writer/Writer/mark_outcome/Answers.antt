@@ -1,6 +1,6 @@
 use Rattle.ot_trace.specs.Origins.{Outcome}
 use Rattle.ot_machine.specs.Meaning.{origin_of}
-use Rattle.ot_words.proofs.Defining.{on-ok}
+use Rattle.ot_log_words.proofs.Defining.{on-ok}
 use Rattle.ot_log.proofs.Outcomes.{outcome-marked, outcome-unmarked, outcome-writer}
 use Rattle.ot_log.proofs.writer.Writer.mark_outcome.Goals as goal
 

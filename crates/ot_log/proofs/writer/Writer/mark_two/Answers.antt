@@ -1,4 +1,4 @@
-use Rattle.ot_words.proofs.Defining.{on-ok}
+use Rattle.ot_log_words.proofs.Defining.{on-ok}
 use Rattle.ot_log.proofs.writer.Writer.mark_two.Goals as goal
 
 pub returns-clause-moves : goal.returns-clause-moves

@@ -1,7 +1,7 @@
 use Rattle.std.specs.List.{All}
 use Rattle.std.proofs.Common.{◌≡◌, ◌∙◌, [], replicate, length, None, sym, subst, ap, rules}
 use Rattle.std.proofs.lemmas.List.Elements.{All-nil}
-use Rattle.ot_rules.specs.Statements.{HasStatement}
+use Rattle.ot_log_rules.specs.Statements.{HasStatement}
 use Rattle.ot_log.proofs.Placed.{none-placed, none-numbered, replicate-long}
 use Rattle.ot_log.proofs.writer.Writer.new.Goals as goal
 

@@ -1,18 +1,19 @@
 use Rattle.std.proofs.Common.{[], ◌∷◌, sym, subst}
 use Rattle.ot_logic.proofs.TableLemmas.{Extends-trans}
-use Rattle.ot_nodes.proofs.TypingLemmas.{typings-grown}
-use Rattle.ot_values.specs.Lists.{AreTermsOf}
-use Rattle.ot_values.proofs.Later.{terms-later}
+use Rattle.ot_log_nodes.proofs.TypingLemmas.{typings-grown}
+use Rattle.ot_log_values.specs.Lists.{AreTermsOf}
+use Rattle.ot_log_values.proofs.Later.{terms-later}
 use Rattle.ot_log.proofs.Putting.{axiom-puts, if-each, two-applied}
 use Rattle.ot_logic.specs.declared.command.Cmd.TheVariants as words
-use Rattle.ot_nodes.specs.Items.{term_at}
-use Rattle.ot_rules.specs.Statements.{terms_at}
+use Rattle.ot_log_nodes.specs.Items.{term_at}
+use Rattle.ot_log_rules.specs.Statements.{terms_at}
 use Rattle.ot_trace.specs.Origins.{NoOrigins, MoreOrigins}
 use Rattle.ot_machine.specs.Meaning.{origin_of}
 use Rattle.ot_machine.specs.Objects.{list, term}
 use Rattle.ot_machine.specs.Places.{as_each, as_term}
-use Rattle.ot_values.specs.Steps.{origins_of}
+use Rattle.ot_log_values.specs.Steps.{origins_of}
 use Rattle.ot_log.proofs.Valued.{has-first, has-values, reads-list}
+use Rattle.ot_log.proofs.Taken.{axiom-taken}
 use Rattle.ot_log.proofs.writer.Writer.put_axiom.Goals as goal
 
 pub write_axiom-requires-clause-known : goal.write_axiom-requires-clause-known
@@ -52,3 +53,9 @@ returns-clause-accepts c =
     c.write_axiom.ensures.accepts l.0 l.2
     (two-applied s words.Axiom a d (list l.0) (term (term_at ts c.in_ok-concl.concl)) c.requires.value l.1
     t.made.made)
+
+pub terms-requires-clause-value : goal.terms-requires-clause-value
+terms-requires-clause-value c = (axiom-taken c.args.session.now c.args.list c.args.p c.requires.value).0
+
+pub term-requires-clause-value : goal.term-requires-clause-value
+term-requires-clause-value c = (axiom-taken c.args.session.now c.args.list c.args.p c.requires.value).1

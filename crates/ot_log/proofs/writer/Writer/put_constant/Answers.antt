@@ -2,17 +2,18 @@ use Rattle.std.proofs.Common.{[], ◌∷◌, refl}
 use Rattle.std.proofs.lemmas.Result.{IfOk-weaker}
 use Rattle.ot_logic.proofs.TableLemmas.{Extends-trans}
 use Rattle.ot_logic.specs.declared.command.Cmd.TheVariants as words
-use Rattle.ot_nodes.specs.Items.{name_at, term_at}
-use Rattle.ot_nodes.proofs.TypingLemmas.{typings-grown}
+use Rattle.ot_log_nodes.specs.Items.{name_at, term_at}
+use Rattle.ot_log_nodes.proofs.TypingLemmas.{typings-grown}
 use Rattle.ot_trace.specs.Origins.{NoOrigins, MoreOrigins}
 use Rattle.ot_machine.specs.Meaning.{origin_of}
 use Rattle.ot_machine.specs.Objects.{name, term}
-use Rattle.ot_values.specs.Steps.{origins_of}
-use Rattle.ot_values.proofs.Later.{known-later, name-later}
+use Rattle.ot_log_values.specs.Steps.{origins_of}
+use Rattle.ot_log_values.proofs.Later.{known-later, name-later}
 use Rattle.ot_log.proofs.Accepted.{defines-something, typed-term}
 use Rattle.ot_log.proofs.Outcomes.{definable-values}
 use Rattle.ot_log.proofs.Putting.{constant-puts, constant-values}
 use Rattle.ot_log.proofs.Valued.{has-first, has-rest}
+use Rattle.ot_log.proofs.Taken.{constant-taken}
 use Rattle.ot_log.proofs.writer.Writer.put_constant.Goals as goal
 
 pub term-requires-clause-known : goal.term-requires-clause-known
@@ -66,3 +67,9 @@ returns-clause-accepts c =
     let d = defines-something s words.DefineConst is (x ∷ y ∷ []) c.requires.definable
     (constant-values s ts c.args.n c.args.t c.in_ok-constant.constant c.in_ok-term.term hs n t) in
     c.write_constant.ensures.accepts (typed-term up (term_at ts c.in_ok-term.term) has t.made) d.0 d.1
+
+pub name-requires-clause-value : goal.name-requires-clause-value
+name-requires-clause-value c = (constant-taken c.args.session.now c.args.n c.args.t c.requires.definable).0
+
+pub term-requires-clause-value : goal.term-requires-clause-value
+term-requires-clause-value c = (constant-taken c.args.session.now c.args.n c.args.t c.requires.definable).1

@@ -1,14 +1,15 @@
 use Rattle.std.proofs.Common.{[], ◌∷◌}
 use Rattle.std.proofs.lemmas.Result.{IfOk-weaker}
-use Rattle.ot_nodes.proofs.TypingLemmas.{typings-grown}
+use Rattle.ot_log_nodes.proofs.TypingLemmas.{typings-grown}
 use Rattle.ot_log.proofs.Putting.{one-applied, term-puts}
-use Rattle.ot_nodes.specs.Items.{term_at}
+use Rattle.ot_log_nodes.specs.Items.{term_at}
 use Rattle.ot_trace.specs.Origins.{NoOrigins}
 use Rattle.ot_machine.specs.Meaning.{origin_of}
 use Rattle.ot_machine.specs.Objects.{term}
-use Rattle.ot_values.specs.Steps.{origins_of}
+use Rattle.ot_log_values.specs.Steps.{origins_of}
 use Rattle.ot_log.proofs.Accepted.{typed-term}
 use Rattle.ot_log.proofs.Valued.{has-first, has-values}
+use Rattle.ot_log.proofs.Taken.{term-taken}
 use Rattle.ot_log.proofs.writer.Writer.put_term.Goals as goal
 
 pub write_of_one_term-requires-clause-known : goal.write_of_one_term-requires-clause-known
@@ -34,3 +35,6 @@ returns-clause-accepts c =
     let has = has-first (origin_of s a) NoOrigins (has-values c.args.word (origins_of s (a ∷ [])) c.requires.value) in
     c.write_of_one_term.ensures.accepts (typed-term (origin_of s a) t has is)
     (one-applied s c.args.word a (term t) c.requires.value is)
+
+pub term-requires-clause-value : goal.term-requires-clause-value
+term-requires-clause-value c = term-taken c.args.session.now c.args.word c.args.a c.requires.takes c.requires.value

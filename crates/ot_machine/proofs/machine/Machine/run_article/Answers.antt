@@ -2,7 +2,7 @@ use Rattle.std.specs.Prelude.{Ok}
 use Rattle.std.proofs.Common.{◌≡◌, ◌∙◌, sym, ap, subst}
 use Rattle.ot_io.proofs.Keeping.{KeepsSource-then}
 use Rattle.ot_scan.specs.Lines.{TakesFrom}
-use Rattle.ot_machine.specs.Meaning.{state_of}
+use Rattle.ot_machine.specs.Meaning.{machine_state}
 use Rattle.ot_machine.specs.Contexts.{context_of}
 use Rattle.ot_machine.specs.Run.{line_step}
 use Rattle.ot_machine.specs.Answers.{Refuses}
@@ -13,6 +13,7 @@ use Rattle.ot_machine.proofs.InContext.{context-kept, of_context-kept}
 use Rattle.ot_machine.proofs.Followed.{follows-none, follows-end, follows-line, follows-refused}
 use Rattle.ot_machine.proofs.Followed.{follows-stopped, refused-apart, stopped-apart}
 use Rattle.ot_machine.proofs.machine.Machine.run_article.Goals as goal
+use Rattle.ot_logic.specs.RanOut.{ran_out}
 
 pub returns-in-Ok-None-clause-runs : goal.returns-in-Ok-None-clause-runs
 returns-in-Ok-None-clause-runs g c =
@@ -21,7 +22,7 @@ returns-in-Ok-None-clause-runs g c =
     let taken = subst (λ r. TakesFrom r c.lines.lines c.next.follows.lender-at-none before after)
     (c.in-Ok-None.is ∙ ap Ok c.in-Ok-None.field-0-is) c.next.follows.holds-at-none.0 in
     follows-end (context_of c.args.session.now c.args.context.now) c.args.max_bytes
-    (state_of c.args.session.now c.args.self.now) c.lines.session.kernel (state_of c.lines.session c.lines.self)
+    (machine_state c.args.session.now c.args.self.now) c.lines.session.kernel (machine_state c.lines.session c.lines.self)
     c.lines.lines c.next.follows.lender-at-none (g.S.Source.left c.args.source.now) before after
     c.lines.invariant.so_far taken
 
@@ -31,14 +32,14 @@ returns-in-Err-line-clause-runs g c =
     let after = g.S.Source.left c.next.new.source in
     let taken = subst (λ r. TakesFrom r c.lines.lines c.next.follows.lender-at-none before after)
     (c.in-Ok-Some.is ∙ ap Ok c.in-Ok-Some.field-0-is) c.next.follows.holds-at-none.0 in
-    let now = state_of c.lines.session c.lines.self in
-    let next = state_of c.line.new.session c.line.new.self in
+    let now = machine_state c.lines.session c.lines.self in
+    let next = machine_state c.line.new.session c.line.new.self in
     let same = context-kept c.args.session.now c.lines.session c.requires.of.run c.lines.invariant.grown
     c.args.context.now c.requires.context in
     rw c.refusal.ensures
     (follows-refused (context_of c.args.session.now c.args.context.now) c.args.max_bytes
-    (state_of c.args.session.now c.args.self.now) c.line.new.session.kernel c.in-Err-line.fault
-    (state_of c.lines.session c.lines.self) (state_of c.line.new.session c.line.new.self) c.lines.lines
+    (machine_state c.args.session.now c.args.self.now) c.line.new.session.kernel c.in-Err-line.fault
+    (machine_state c.lines.session c.lines.self) (machine_state c.line.new.session c.line.new.self) c.lines.lines
     c.next.follows.lender-at-none c.in-Ok-Some.line (g.S.Source.left c.args.source.now) before after
     c.lines.invariant.so_far taken
     (subst (λ x. (next ≡ now) × Refuses c.line.new.session.kernel c.in-Err-line.fault
@@ -54,10 +55,10 @@ lines-preserved g c =
     c.args.context.now c.requires.context in
     record {
       so_far = follows-line (context_of c.args.session.now c.args.context.now) c.args.max_bytes
-          (state_of c.args.session.now c.args.self.now) (state_of c.lines.session c.lines.self)
-          (state_of c.line.new.session c.line.new.self) c.lines.lines c.next.follows.lender-at-none c.in-Ok-Some.line
+          (machine_state c.args.session.now c.args.self.now) (machine_state c.lines.session c.lines.self)
+          (machine_state c.line.new.session c.line.new.self) c.lines.lines c.next.follows.lender-at-none c.in-Ok-Some.line
           (g.S.Source.left c.args.source.now) before after c.lines.invariant.so_far taken
-          (ap (λ x. line_step x (state_of c.lines.session c.lines.self) c.in-Ok-Some.line.text.now) (sym same)
+          (ap (λ x. line_step x (machine_state c.lines.session c.lines.self) c.in-Ok-Some.line.text.now) (sym same)
           ∙ c.in_default.ensures.moves);
       of = c.line.ensures.of;
       grown = grows-on c.lines.invariant.grown c.line.ensures.grown;
@@ -72,8 +73,8 @@ returns-in-Err-clause-runs g c =
     c.next.follows.holds-at-none.0 in
     rw c.from.ensures
     (follows-stopped (context_of c.args.session.now c.args.context.now) c.args.max_bytes
-    (state_of c.args.session.now c.args.self.now) c.lines.session.kernel c.in-Err.fault
-    (state_of c.lines.session c.lines.self) c.lines.lines c.next.follows.lender-at-none
+    (machine_state c.args.session.now c.args.self.now) c.lines.session.kernel c.in-Err.fault
+    (machine_state c.lines.session c.lines.self) c.lines.lines c.next.follows.lender-at-none
     (g.S.Source.left c.args.source.now) before after c.lines.invariant.so_far taken)
 
 pub line-requires-clause-context : goal.line-requires-clause-context
@@ -86,11 +87,11 @@ returns-in-Err-line-clause-grown g c = grows-on c.lines.invariant.grown c.in-Err
 pub returns-in-Err-line-clause-apart : goal.returns-in-Err-line-clause-apart
 returns-in-Err-line-clause-apart g c =
     λ line e.
-    let is : c.refusal.result ≡ At line Memory = cc in
+    let is : c.refusal.result ≡ At line (Memory ran_out) = cc in
     refused-apart c.in-Ok-Some.line.number line c.in-Err-line.fault (sym c.refusal.ensures ∙ is)
 
 pub returns-in-Err-clause-apart : goal.returns-in-Err-clause-apart
 returns-in-Err-clause-apart g c =
     λ line e.
-    let is : c.from.result ≡ At line Memory = cc in
+    let is : c.from.result ≡ At line (Memory ran_out) = cc in
     stopped-apart line c.in-Err.fault (sym c.from.ensures ∙ is)

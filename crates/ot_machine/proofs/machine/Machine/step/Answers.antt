@@ -4,7 +4,7 @@ use Rattle.ot_logic.specs.Names.{Name}
 use Rattle.ot_logic.specs.Faults as faults
 use Rattle.ot_scan.specs.Words.{word_value}
 use Rattle.ot_machine.specs.States.{State}
-use Rattle.ot_machine.specs.Meaning.{article_of, state_of, command_at, version_of}
+use Rattle.ot_machine.specs.Meaning.{article_of, machine_state, command_at, version_of}
 use Rattle.ot_machine.specs.Contexts.{context_of}
 use Rattle.ot_machine.specs.Step.{row, step}
 use Rattle.ot_machine.proofs.Kept.{trace-same}
@@ -17,20 +17,20 @@ use Rattle.ot_machine.proofs.machine.Machine.step.Goals.{In_ok-version}
 abbrev stated : In_ok-version → Result State (faults.Fault Name)
 stated c =
     row (version_of c.in_ok-version.version) (context_of c.args.session.now c.args.context.now)
-    (command_at c.command.new.self.kernel c.in_ok-command.command) (state_of c.args.session.now c.args.self.now)
+    (command_at c.command.new.self.kernel c.in_ok-command.command) (machine_state c.args.session.now c.args.self.now)
 
 by_row : (c : In_ok-version)
-    → step (context_of c.args.session.now c.args.context.now) (state_of c.args.session.now c.args.self.now)
+    → step (context_of c.args.session.now c.args.context.now) (machine_state c.args.session.now c.args.self.now)
     (word_value c.args.word) ≡ with_count (version_of c.in_ok-version.version) (stated c)
 by_row c =
-    stepped (context_of c.args.session.now c.args.context.now) (state_of c.args.session.now c.args.self.now)
+    stepped (context_of c.args.session.now c.args.context.now) (machine_state c.args.session.now c.args.self.now)
     (word_value c.args.word) (command_at c.command.new.self.kernel c.in_ok-command.command)
     (version_of c.in_ok-version.version) c.in_ok-command.ensures.made
     (c.in_ok-version.ensures c.command.new.self.kernel)
 
 as_stated : (c : In_ok-version)
     → row (version_of c.in_ok-version.version) (context_of c.command.new.self c.args.context.now)
-    (command_at c.command.new.self.kernel c.in_ok-command.command) (state_of c.command.new.self c.args.self.now)
+    (command_at c.command.new.self.kernel c.in_ok-command.command) (machine_state c.command.new.self c.args.self.now)
     ≡ stated c
 as_stated c =
     let there = c.in_ok-command.ensures.kept in
@@ -47,10 +47,10 @@ returns-in_err-row-clause-moves c =
     let before = (goal.at.returns-in_err-row-clause-moves c).In_ok-version in
     let m = c.in_err-row.ensures.moves in
     let there = c.in_ok-command.ensures.kept in
-    let same : state_of c.command.new.self c.args.self.now ≡ state_of c.args.session.now c.args.self.now =
+    let same : machine_state c.command.new.self c.args.self.now ≡ machine_state c.args.session.now c.args.self.now =
     λ i. record { article = there.machine.article i; run = there.run i } in
     refused-moves c.from_residual-in_err-row.result c.in_err-row.field-0.0 l _
-    (state_of c.args.session.now c.args.self.now) (state_of c.row.new.session c.row.new.self) (search rules)
+    (machine_state c.args.session.now c.args.self.now) (machine_state c.row.new.session c.row.new.self) (search rules)
     (m.0 ∙ same) (
       m.1.0,
       λ f p. by_row before ∙ ap (with_count (version_of c.in_ok-version.version))
@@ -65,7 +65,7 @@ returns-clause-moves c =
     by_row before
     ∙ ap (with_count (version_of c.in_ok-version.version)) (sym (as_stated before) ∙ c.in_ok-row.ensures.moves)
     ∙ ap (λ n.
-    Ok (record (state_of c.row.new.session next) {
+    Ok (record (machine_state c.row.new.session next) {
       article = record (article_of c.row.new.session next)
           { count = n; version = version_of c.in_ok-version.version };
     })) counts

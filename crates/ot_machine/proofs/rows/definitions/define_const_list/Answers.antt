@@ -15,7 +15,7 @@ use Rattle.ot_machine.specs.States.{Entry}
 use Rattle.ot_machine.specs.Rows.{constants_of, constants_origin, constants_entry}
 use Rattle.ot_machine.specs.Rows.{origin_at, with_defined, define_const_list_row}
 use Rattle.ot_machine.specs.Contexts.{context_of}
-use Rattle.ot_machine.specs.Meaning.{list_at, origin_of, state_of}
+use Rattle.ot_machine.specs.Meaning.{list_at, origin_of, machine_state}
 use Rattle.ot_machine.proofs.Constants.{constants-listed}
 use Rattle.ot_machine.proofs.Kept.{lists, origin-kept, traces-grow, grows-on}
 use Rattle.ot_machine.proofs.Traced.{traced-origin}
@@ -102,7 +102,7 @@ returns-in_err-theorem c =
     let t = c.list_definition.new.self in
     let m = c.args.machine.now in
     let made = c.constants.new.machine in
-    let st = state_of s m in
+    let st = machine_state s m in
     let traced = c.in_ok-step.ensures.kept in
     let grown = traces-grow s t0 made traced in
     let there = c.in_err-theorem.ensures in
@@ -138,7 +138,7 @@ returns c =
     let t = c.list_definition.new.self in
     let m = c.args.machine.now in
     let made = c.constants.new.machine in
-    let st = state_of s m in
+    let st = machine_state s m in
     let traced = c.in_ok-step.ensures.kept in
     let grown = traces-grow s t0 made traced in
     let there = c.in_ok-theorem.ensures in

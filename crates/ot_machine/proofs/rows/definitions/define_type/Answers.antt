@@ -6,7 +6,7 @@ use Rattle.ot_machine.specs.Objects.{type_op, constant, theorem}
 use Rattle.ot_machine.specs.States.{Entry}
 use Rattle.ot_machine.specs.Rows.{with_defined, type_op_entry, constant_entry}
 use Rattle.ot_machine.specs.Defining.{operator_theorems}
-use Rattle.ot_machine.specs.Meaning.{origin_of, state_of, version_of}
+use Rattle.ot_machine.specs.Meaning.{origin_of, machine_state, version_of}
 use Rattle.ot_machine.specs.Contexts.{context_of}
 use Rattle.ot_machine.specs.Step.{define_type_row}
 use Rattle.ot_machine.proofs.Turning.{name-kept, state-defined, refused-turn, type_op_after, type_op-read}
@@ -23,14 +23,14 @@ Symbols c =
 -- the row, after what it reads
 read : (c : After-deref) → (let s = c.args.session.now in
     let k = s.kernel in
-    let st = state_of s c.args.machine.now in
+    let st = machine_state s c.args.machine.now in
     define_type_row (version_of c.args.version) (context_of s c.args.context.now) st
     ≡ type_op_after (version_of c.args.version) st (theorem_at k c.in_ok-premise.premise)
     (map (name_at k) c.deref.result.now) (name_at k c.constant_named-rep.result)
     (name_at k c.constant_named-abs.result) (name_at k c.type_op_named-name.result))
 read c =
     let s = c.args.session.now in
-    type_op-read (context_of s c.args.context.now) (state_of s c.args.machine.now) _
+    type_op-read (context_of s c.args.context.now) (machine_state s c.args.machine.now) _
     (map (name_at s.kernel) c.deref.result.now) _ _ _ _ _ _ c.in_ok-premise.ensures.found
     (c.in_ok-variables.ensures.found ∙ ap (λ is. Ok (map (name_at s.kernel) is)) (sym c.deref.ensures.value))
     c.in_ok-rep.ensures.found c.in_ok-abs.ensures.found c.in_ok-name.ensures.found
@@ -48,7 +48,7 @@ returns-in_err-defined c =
     (search rules)
     (λ i. record { article = there.adds.article i; run = there.adds.refused i }) (
       there.made.0,
-      λ f p. read at ∙ ap (λ r. r >>= λ d. Ok (with_defined 5 (Symbols at) d (state_of s m))) (there.made.1 f p),
+      λ f p. read at ∙ ap (λ r. r >>= λ d. Ok (with_defined 5 (Symbols at) d (machine_state s m))) (there.made.1 f p),
     )
     there.adds.grown there.adds.of
 
@@ -69,7 +69,7 @@ returns c =
     let first : Entry = record { object = theorem (theorem_at l d.abs_rep); origin = origin_of t d.abs_rep_step } in
     let second : Entry = record { object = theorem (theorem_at l d.rep_abs); origin = origin_of t d.rep_abs_step } in
     record {
-      moves = read at ∙ ap (λ r. r >>= λ d. Ok (with_defined 5 (Symbols at) d (state_of s m))) there.made
+      moves = read at ∙ ap (λ r. r >>= λ d. Ok (with_defined 5 (Symbols at) d (machine_state s m))) there.made
           ∙ ap Ok (state-defined s t m m c.exchange.new.machine 5 _ (Symbols at) (operator_theorems t d)
           there.adds.article
           c.exchange.ensures.changed

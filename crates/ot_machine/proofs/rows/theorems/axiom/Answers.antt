@@ -6,7 +6,7 @@ use Rattle.ot_machine.specs.Places.{replaced}
 use Rattle.ot_machine.specs.Rows.{theorem_entry}
 use Rattle.ot_machine.specs.Discharge.{axiom_row}
 use Rattle.ot_machine.specs.Contexts.{context_of, given_of}
-use Rattle.ot_machine.specs.Meaning.{run_of, state_of}
+use Rattle.ot_machine.specs.Meaning.{run_of, machine_state}
 use Rattle.ot_machine.proofs.Turning.{refused-turn, axiom-read}
 use Rattle.ot_machine.proofs.rows.theorems.axiom.Goals as goal
 
@@ -16,7 +16,7 @@ returns-in_err-given c =
     let k = s.kernel in
     let t = c.axiom.new.self in
     let m = c.args.machine.now in
-    let st = state_of s m in
+    let st = machine_state s m in
     let there = c.in_err-given.ensures in
     let row = axiom-read (context_of s c.args.context.now) st _ _ _ (map (term_at k) c.deref.result.now)
     c.in_ok-concl.ensures.found c.in_ok-list.ensures.entry
@@ -37,7 +37,7 @@ returns c =
     let k = s.kernel in
     let t = c.axiom.new.self in
     let m = c.args.machine.now in
-    let st = state_of s m in
+    let st = machine_state s m in
     let there = c.in_ok-given.ensures in
     let row = axiom-read (context_of s c.args.context.now) st _ _ _ (map (term_at k) c.deref.result.now)
     c.in_ok-concl.ensures.found c.in_ok-list.ensures.entry

@@ -4,7 +4,10 @@ use Rattle.std.proofs.lemmas.List.{map-append, take_at}
 use Rattle.std.proofs.lemmas.List.Elements.{All-take}
 use Rattle.ot_kernel.specs.State.{name_at}
 use Rattle.ot_machine.specs.Meaning.{list_at, lists_of}
+use Rattle.ot_machine.specs.Answers.{Makes}
 use Rattle.ot_machine.proofs.Constants.{constants_onto, constants_onto-start, constants_onto-push, consed-made}
+use Rattle.ot_machine.proofs.Constants.{longer-made}
+use Rattle.ot_machine.proofs.Refusals.{refused-for-memory}
 use Rattle.ot_machine.proofs.session.Session.constants.Goals as goal
 
 pub names-init : goal.names-init
@@ -37,3 +40,12 @@ names-preserved c =
       kept = c.in-Ok.ensures.kept ∙ c.names.invariant.kept;
       stack = c.in-Ok.ensures.stack ∙ c.names.invariant.stack;
     }
+
+pub unreachable-requires : goal.unreachable-requires
+unreachable-requires c =
+    let k = c.args.self.now.kernel in
+    let os = list_at (lists_of c.args.self.now c.names.machine) c.names.list in
+    refused-for-memory k _ c.cons.result _ _
+    (subst (Makes k _ c.cons.result)
+    (longer-made _ _ (name_at k c.in-Some.name.now) os c.names.invariant.so_far) c.cons.ensures.made)
+    c.in-Err.is (λ is. c.in_default-fault.not-Memory _ is)

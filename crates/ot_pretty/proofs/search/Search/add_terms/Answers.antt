@@ -1,6 +1,6 @@
 use Rattle.std.proofs.Common.{subst, arith}
 use Rattle.std.proofs.lemmas.List.{take_all}
-use Rattle.ot_pretty.specs.Found.{Finds, term_symbols}
+use Rattle.ot_pretty.specs.Found.{FindsSymbols, term_symbols}
 use Rattle.ot_pretty.proofs.Finding.{finds-nothing, terms-step}
 use Rattle.ot_pretty.proofs.search.Search.add_terms.Goals as goal
 
@@ -13,5 +13,5 @@ loop-id-preserved c =
     c.loop-id-test.true c.id-item.is c.loop-id.invariant c.in_ok-add_term.ensures
 
 pub returns : goal.returns
-returns c = λ s n m h. subst (λ is. Finds s n m c.args.self.now c.loop-id.self (term_symbols s is))
+returns c = λ s n m h. subst (λ is. FindsSymbols s n m c.args.self.now c.loop-id.self (term_symbols s is))
     (take_all c.loop-id.id-index c.args.ids.now (omega arith)) (c.loop-id.invariant s n m h)

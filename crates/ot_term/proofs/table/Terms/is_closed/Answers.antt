@@ -2,6 +2,7 @@ use Rattle.std.proofs.Common.{◌<◌, Decides, length, sym, subst}
 use Rattle.ot_logic.specs.Hol.{IsClosed}
 use Rattle.ot_logic.specs.NamedTerms.{nameless}
 use Rattle.ot_logic.specs.Naming.{numbers}
+use Rattle.ot_class.specs.Class.{IsNumber}
 use Rattle.ot_term.specs.Term.{TermTable}
 use Rattle.ot_term.specs.TermTable.{term_at, terms_of, IsClassOf}
 use Rattle.ot_term.proofs.TermTableLemmas.{class_at-number, classes_within}
@@ -14,7 +15,7 @@ class_beside-requires c = entry_within _ _ _ c.self.invariant c.args.self.now c.
 pub is_closed-requires : goal.is_closed-requires
 is_closed-requires c =
     let within = entry_within _ _ _ c.self.invariant c.args.self.now c.self.view_is c.args.id c.requires in
-    subst (λ k. k < length c.self.inside.classes) (sym c.class_beside.ensures)
+    subst (IsNumber c.self.inside.classes) (sym c.class_beside.ensures)
     (classes_within _ _ _ c.self.invariant c.args.id within)
 
 pub returns : goal.returns

@@ -1,5 +1,6 @@
 use Rattle.std.proofs.Common.{◌<◌, length, IfOk, sym, subst}
 use Rattle.ot_term.specs.Free.{AreTypesOf}
+use Rattle.ot_class.specs.Class.{IsNumber}
 use Rattle.ot_term.specs.Term.{TermTable}
 use Rattle.ot_term.specs.TermTable.{term_at, terms_of, IsClassOf}
 use Rattle.ot_term.proofs.TermTableLemmas.{class_at-number, classes_within}
@@ -14,7 +15,7 @@ class_beside-class-requires c = entry_within _ _ _ c.self.invariant c.args.self.
 pub types_of-requires : goal.types_of-requires
 types_of-requires c =
     let within = entry_within _ _ _ c.self.invariant c.args.self.now c.self.view_is c.args.id c.requires in
-    subst (λ k. k < length c.self.inside.classes) (sym c.class_beside-class.ensures)
+    subst (IsNumber c.self.inside.classes) (sym c.class_beside-class.ensures)
     (classes_within _ _ _ c.self.invariant c.args.id within)
 
 pub returns-clause-types : goal.returns-clause-types
@@ -26,5 +27,5 @@ returns-clause-types c =
     (sym c.class_beside-class.ensures) (class_at-number _ _ _ c.self.invariant c.args.id within) in
     subst (λ (t : TermTable). IfOk c.types_of.result
     (λ ks. AreTypesOf t.types c.args.name (term_at t.terms c.args.id) ks.items)) c.self.view_is
-    (types_of_result c.types_of.result tys c.self.inside.classes _ _ c.args.name class c.types_of.ensures.free
+    (types_of_result tys c.self.inside.classes _ _ class c.args.name c.types_of.result c.types_of.ensures.free
     c.types_of.ensures.once)

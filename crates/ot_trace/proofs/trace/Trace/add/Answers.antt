@@ -10,7 +10,7 @@ left c = entered c.self.inside.steps c.args.self.now c.self.view_is c.self.invar
 
 pub invariant_of-self-2 : goal.invariant_of-self-2
 invariant_of-self-2 c =
-    ((left c).sound, omega (arith, c.in_ok-index.ensures.len, c.if-len.false, c.len.ensures))
+    ((left c).sound, omega (arith, c.in_ok-index.ensures.len, c.in_ok-unless_full.ensures.ok, c.len.ensures))
 
 pub returns-clause-ok : goal.returns-clause-ok
 returns-clause-ok c = (left c).found

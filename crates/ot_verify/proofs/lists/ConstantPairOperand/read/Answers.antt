@@ -1,4 +1,4 @@
-use Rattle.ot_records.specs.Records.{ask_variable}
+use Rattle.ot_log_format.specs.Records.{ask_variable}
 use Rattle.ot_verify.specs.Later.{named-later}
 use Rattle.ot_verify.proofs.Collecting.{both-read, first-stop, second-stop}
 use Rattle.ot_verify.proofs.Meeting.{meets-then}

@@ -1,4 +1,4 @@
-use Rattle.ot_records.specs.Records.{AskTerm}
+use Rattle.ot_log_format.specs.Records.{AskTerm}
 use Rattle.ot_verify.proofs.Collecting.{both-read, first-stop, second-stop}
 use Rattle.ot_verify.proofs.lists.TermPairOperand.read.Goals as goal
 

@@ -1,10 +1,10 @@
 use Rattle.std.proofs.Common.{ℕ, List, sym, subst}
 use Rattle.ot_logic.specs.Naming.{names}
 use Rattle.ot_laws.proofs.Tests.{tells_names}
-use Rattle.ot_records.specs.Steps.{abs_thm_step}
-use Rattle.ot_records.proofs.StepSound.{abs_thm-sound}
-use Rattle.ot_nodes.specs.Changing.{variable_at}
-use Rattle.ot_rules.specs.Statements.{sequent_at}
+use Rattle.ot_log_format.specs.Steps.{abs_thm_step}
+use Rattle.ot_log_format.proofs.StepSound.{abs_thm-sound}
+use Rattle.ot_log_nodes.specs.Changing.{variable_at}
+use Rattle.ot_log_rules.specs.Statements.{sequent_at}
 use Rattle.ot_verify.specs.Finding.{IsFoundVariable}
 use Rattle.ot_verify.specs.Held.{view_of}
 use Rattle.ot_verify.proofs.Found.{variable-found, variable-there, variable-held}

@@ -1,12 +1,12 @@
 use Rattle.std.specs.List.{All, list_all}
 use Rattle.std.proofs.Common.{◌∙◌, [], ◌∷◌, ◌++◌, map, sym, ap, subst}
 use Rattle.ot_logic.specs.Naming.{names}
-use Rattle.ot_records.specs.Steps.{is_sequent_within}
-use Rattle.ot_rules.specs.Accepting.{accepted_at}
-use Rattle.ot_rules.specs.Limits.{AreWellTyped}
-use Rattle.ot_rules.specs.Statements.{sequent_at, HasStatement}
-use Rattle.ot_rules.specs.declared.definition.Accepted.{Accepted}
-use Rattle.ot_rules.proofs.Freshness.{signature-same}
+use Rattle.ot_log_format.specs.Steps.{is_sequent_within}
+use Rattle.ot_log_rules.specs.Accepting.{accepted_at}
+use Rattle.ot_log_rules.specs.Limits.{AreWellTyped}
+use Rattle.ot_log_rules.specs.Statements.{sequent_at, HasStatement}
+use Rattle.ot_log_rules.specs.declared.definition.Accepted.{Accepted}
+use Rattle.ot_log_rules.proofs.Freshness.{signature-same}
 use Rattle.ot_verify.proofs.Logging.{held_of, log-kept, with-typings}
 use Rattle.ot_verify.proofs.Keeping.{whole-same, accepted-typed, accepted-there, definition-kept, definition-added}
 use Rattle.ot_verify.proofs.log.Log.accept.Goals as goal

@@ -1,7 +1,7 @@
 use Rattle.ot_logic.specs.Naming.{names}
 use Rattle.ot_laws.proofs.Tests.{tells_names}
-use Rattle.ot_records.specs.Steps.{app_thm_step}
-use Rattle.ot_records.proofs.StepSound.{app_thm-sound}
+use Rattle.ot_log_format.specs.Steps.{app_thm_step}
+use Rattle.ot_log_format.proofs.StepSound.{app_thm-sound}
 use Rattle.ot_verify.proofs.Logging.{at-same, log-kept, no-sequent, statement-here}
 use Rattle.ot_verify.proofs.Stepping.{sequents-follow, sequents-stepped}
 use Rattle.ot_verify.proofs.log.Log.app_thm.Goals as goal

@@ -2,12 +2,12 @@ use Rattle.std.specs.Prelude.{Err}
 use Rattle.std.specs.List.{All}
 use Rattle.std.proofs.Common.{◌∙◌, ℕ, List, sym, ap, subst}
 use Rattle.ot_logic.specs.Naming.{names}
-use Rattle.ot_records.specs.State.{makes_assumption}
-use Rattle.ot_records.specs.Steps.{assumption_step}
-use Rattle.ot_nodes.specs.Items.{HasTerm}
-use Rattle.ot_nodes.proofs.ItemLemmas.{still-term, term-stays}
-use Rattle.ot_rules.specs.Statements.{terms_at, Gives}
-use Rattle.ot_rules.proofs.Staying.{terms-stay, still-terms}
+use Rattle.ot_log_format.specs.State.{makes_assumption}
+use Rattle.ot_log_format.specs.Steps.{assumption_step}
+use Rattle.ot_log_nodes.specs.Items.{HasTerm}
+use Rattle.ot_log_nodes.proofs.ItemLemmas.{still-term, term-stays}
+use Rattle.ot_log_rules.specs.Statements.{terms_at, Gives}
+use Rattle.ot_log_rules.proofs.Staying.{terms-stay, still-terms}
 use Rattle.ot_verify.specs.Asking.{IsAt, AreEach}
 use Rattle.ot_verify.specs.Finding.{FindsEach}
 use Rattle.ot_verify.specs.Held.{state_of}

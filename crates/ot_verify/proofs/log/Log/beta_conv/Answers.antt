@@ -1,7 +1,7 @@
 use Rattle.ot_logic.specs.Naming.{names}
 use Rattle.ot_laws.proofs.Tests.{tells_names}
-use Rattle.ot_records.specs.Steps.{beta_step}
-use Rattle.ot_records.proofs.StepSound.{beta-sound}
+use Rattle.ot_log_format.specs.Steps.{beta_step}
+use Rattle.ot_log_format.proofs.StepSound.{beta-sound}
 use Rattle.ot_verify.proofs.Logging.{at-same, log-kept, with-typings, held-here, no-term}
 use Rattle.ot_verify.proofs.Stepping.{term-follows, term-stepped}
 use Rattle.ot_verify.proofs.log.Log.beta_conv.Goals as goal

@@ -1,7 +1,7 @@
 use Rattle.ot_logic.specs.Trees.{Bound}
-use Rattle.ot_nodes.proofs.ItemLemmas.{has-term, term-is}
+use Rattle.ot_log_nodes.proofs.ItemLemmas.{has-term, term-is}
 use Rattle.ot_verify.proofs.Logging.{held_of, log-kept, state-then, made-term}
-use Rattle.ot_nodes.specs.Items.{term_at}
+use Rattle.ot_log_nodes.specs.Items.{term_at}
 use Rattle.ot_verify.specs.Held.{state_of}
 use Rattle.ot_verify.proofs.log.Log.bound.Goals as goal
 

@@ -1,10 +1,10 @@
 use Rattle.std.proofs.Common.{◌∙◌}
 use Rattle.std.proofs.Common.{true≢false, sym}
 use Rattle.ot_logic.specs.Trees.{Con}
-use Rattle.ot_nodes.proofs.ItemLemmas.{has-name, name-is, has-term, term-is}
+use Rattle.ot_log_nodes.proofs.ItemLemmas.{has-name, name-is, has-term, term-is}
 use Rattle.ot_verify.proofs.Logging.{at-same, held_of, log-kept, state-then, named-here}
 use Rattle.ot_verify.proofs.Logging.{type-here, typed-here, no-type, made-term}
-use Rattle.ot_nodes.specs.Items.{term_at}
+use Rattle.ot_log_nodes.specs.Items.{term_at}
 use Rattle.ot_verify.specs.Held.{state_of}
 use Rattle.ot_verify.proofs.log.Log.constant_term.Goals as goal
 

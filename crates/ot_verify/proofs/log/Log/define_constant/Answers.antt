@@ -1,15 +1,15 @@
 use Rattle.std.proofs.Common.{◌∙◌, true≢false, sym, subst}
 use Rattle.ot_logic.specs.Naming.{names}
 use Rattle.ot_laws.proofs.Tests.{tells_names}
-use Rattle.ot_records.specs.State.{makes_definition}
-use Rattle.ot_records.specs.Steps.{constant_step}
-use Rattle.ot_records.proofs.DefinitionSound.{constant-acceptable}
-use Rattle.ot_nodes.specs.Items.{name_at, term_at}
-use Rattle.ot_nodes.proofs.ItemLemmas.{has-name, name-is}
-use Rattle.ot_rules.specs.Definitions.{definition_at}
-use Rattle.ot_rules.specs.declared.definition.Definition as code
-use Rattle.ot_rules.specs.declared.definition.Definition.TheVariants as kind
-use Rattle.ot_rules.proofs.Staying.{still-definition}
+use Rattle.ot_log_format.specs.State.{makes_definition}
+use Rattle.ot_log_format.specs.Steps.{constant_step}
+use Rattle.ot_log_format.proofs.DefinitionSound.{constant-acceptable}
+use Rattle.ot_log_nodes.specs.Items.{name_at, term_at}
+use Rattle.ot_log_nodes.proofs.ItemLemmas.{has-name, name-is}
+use Rattle.ot_log_rules.specs.Definitions.{definition_at}
+use Rattle.ot_log_rules.specs.declared.definition.Definition as code
+use Rattle.ot_log_rules.specs.declared.definition.Definition.TheVariants as kind
+use Rattle.ot_log_rules.proofs.Staying.{still-definition}
 use Rattle.ot_verify.specs.Held.{state_of, view_of}
 use Rattle.ot_verify.specs.Logged.{MadeBy}
 use Rattle.ot_verify.proofs.Defining.{Steps, made-definition, establishes, defines-grown}

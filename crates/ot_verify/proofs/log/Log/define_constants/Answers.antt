@@ -3,17 +3,17 @@ use Rattle.std.proofs.Common.{◌∙◌, ℕ, List, sym, ap, subst}
 use Rattle.ot_logic.specs.Naming.{names}
 use Rattle.ot_laws.specs.Theorem.{IsTheorem}
 use Rattle.ot_laws.proofs.Tests.{tells_names}
-use Rattle.ot_records.specs.State.{makes_definition}
-use Rattle.ot_records.specs.Steps.{constants_step}
-use Rattle.ot_records.proofs.DefinitionSound.{constants-acceptable}
-use Rattle.ot_nodes.specs.declared.node.VariableNode.{VariableNode}
-use Rattle.ot_rules.specs.Limits.{AreWellTyped}
-use Rattle.ot_rules.specs.Statements.{sequent_at}
+use Rattle.ot_log_format.specs.State.{makes_definition}
+use Rattle.ot_log_format.specs.Steps.{constants_step}
+use Rattle.ot_log_format.proofs.DefinitionSound.{constants-acceptable}
+use Rattle.ot_log_nodes.specs.declared.node.VariableNode.{VariableNode}
+use Rattle.ot_log_rules.specs.Limits.{AreWellTyped}
+use Rattle.ot_log_rules.specs.Statements.{sequent_at}
 use Rattle.ot_logic.specs.Trees.{ListDef}
-use Rattle.ot_rules.specs.Definitions.{definition_at, pairs_at, HasPairs, Defines}
-use Rattle.ot_rules.specs.declared.definition.Definition as code
-use Rattle.ot_rules.specs.declared.definition.Definition.TheVariants as kind
-use Rattle.ot_rules.proofs.Staying.{still-definition}
+use Rattle.ot_log_rules.specs.Definitions.{definition_at, pairs_at, HasPairs, Defines}
+use Rattle.ot_log_rules.specs.declared.definition.Definition as code
+use Rattle.ot_log_rules.specs.declared.definition.Definition.TheVariants as kind
+use Rattle.ot_log_rules.proofs.Staying.{still-definition}
 use Rattle.ot_verify.specs.Asking.{AreEach}
 use Rattle.ot_verify.specs.Finding.{FindsEach, IsFoundConstantPair}
 use Rattle.ot_verify.specs.Held.{state_of, view_of}

@@ -4,17 +4,17 @@ use Rattle.ot_logic.specs.Naming.{names}
 use Rattle.ot_logic.specs.Trees.{TyDef}
 use Rattle.ot_laws.specs.Theorem.{IsTheorem}
 use Rattle.ot_laws.proofs.Tests.{tells_names}
-use Rattle.ot_records.specs.State.{makes_definition}
-use Rattle.ot_records.specs.Steps.{type_operator_step}
-use Rattle.ot_records.proofs.DefinitionSound.{type_operator-acceptable}
-use Rattle.ot_nodes.specs.Items.{HasName, name_at}
-use Rattle.ot_nodes.proofs.ItemLemmas.{has-name, name-is}
-use Rattle.ot_rules.specs.Limits.{AreWellTyped}
-use Rattle.ot_rules.specs.Statements.{sequent_at}
-use Rattle.ot_rules.specs.Definitions.{definition_at, HasDefinition, names_at, Defines}
-use Rattle.ot_rules.specs.declared.definition.Definition as code
-use Rattle.ot_rules.specs.declared.definition.Definition.TheVariants as kind
-use Rattle.ot_rules.proofs.Staying.{still-definition}
+use Rattle.ot_log_format.specs.State.{makes_definition}
+use Rattle.ot_log_format.specs.Steps.{type_operator_step}
+use Rattle.ot_log_format.proofs.DefinitionSound.{type_operator-acceptable}
+use Rattle.ot_log_nodes.specs.Items.{HasName, name_at}
+use Rattle.ot_log_nodes.proofs.ItemLemmas.{has-name, name-is}
+use Rattle.ot_log_rules.specs.Limits.{AreWellTyped}
+use Rattle.ot_log_rules.specs.Statements.{sequent_at}
+use Rattle.ot_log_rules.specs.Definitions.{definition_at, HasDefinition, names_at, Defines}
+use Rattle.ot_log_rules.specs.declared.definition.Definition as code
+use Rattle.ot_log_rules.specs.declared.definition.Definition.TheVariants as kind
+use Rattle.ot_log_rules.proofs.Staying.{still-definition}
 use Rattle.ot_verify.specs.Held.{state_of, view_of}
 use Rattle.ot_verify.specs.Logged.{MadeBy}
 use Rattle.ot_verify.proofs.Adding.{sequent-typed}

@@ -2,8 +2,8 @@ use Rattle.std.proofs.Common.{sym, subst}
 use Rattle.ot_logic.specs.Naming.{names}
 use Rattle.ot_logic.proofs.TableLemmas.{Extends-refl}
 use Rattle.ot_laws.proofs.Tests.{tells_names}
-use Rattle.ot_records.specs.Steps.{eq_mp_step}
-use Rattle.ot_records.proofs.StepSound.{eq_mp-sound}
+use Rattle.ot_log_format.specs.Steps.{eq_mp_step}
+use Rattle.ot_log_format.proofs.StepSound.{eq_mp-sound}
 use Rattle.ot_verify.specs.Held.{Supports, AddsSequent}
 use Rattle.ot_verify.specs.Logged.{LogView}
 use Rattle.ot_verify.proofs.Logging.{at-same, no-sequent, statement-here}

@@ -1,11 +1,11 @@
 use Rattle.std.proofs.Common.{◌∙◌, ap, subst}
 use Rattle.std.proofs.Common.{ℕ, List, sym}
 use Rattle.ot_logic.specs.Trees.{Free}
-use Rattle.ot_nodes.proofs.ItemLemmas.{has-term, term-is}
+use Rattle.ot_log_nodes.proofs.ItemLemmas.{has-term, term-is}
 use Rattle.ot_verify.specs.Finding.{IsFoundVariable}
 use Rattle.ot_verify.proofs.Found.{variable-found, variable-there, variable-held}
 use Rattle.ot_verify.proofs.Logging.{held_of, log-kept, state-then, made-term}
-use Rattle.ot_nodes.specs.Items.{term_at}
+use Rattle.ot_log_nodes.specs.Items.{term_at}
 use Rattle.ot_verify.specs.Held.{state_of}
 use Rattle.ot_verify.proofs.log.Log.free.Goals as goal
 

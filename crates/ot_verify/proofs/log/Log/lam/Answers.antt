@@ -1,9 +1,9 @@
 use Rattle.std.proofs.Common.{◌∙◌}
 use Rattle.ot_logic.specs.Trees.{Abs}
-use Rattle.ot_nodes.proofs.ItemLemmas.{has-term, term-is}
+use Rattle.ot_log_nodes.proofs.ItemLemmas.{has-term, term-is}
 use Rattle.ot_verify.proofs.Logging.{at-same, held_of, log-kept, state-then, type-here, typed-here}
 use Rattle.ot_verify.proofs.Logging.{no-type, term-here, held-here, no-term, made-term}
-use Rattle.ot_nodes.specs.Items.{term_at}
+use Rattle.ot_log_nodes.specs.Items.{term_at}
 use Rattle.ot_verify.specs.Held.{state_of}
 use Rattle.ot_verify.proofs.log.Log.lam.Goals as goal
 

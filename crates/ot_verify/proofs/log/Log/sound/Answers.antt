@@ -1,6 +1,6 @@
 use Rattle.std.proofs.Common.{subst}
 use Rattle.ot_logic.specs.Naming.{names}
-use Rattle.ot_records.specs.Sound.{IsProved}
+use Rattle.ot_log_format.specs.Sound.{IsProved}
 use Rattle.ot_verify.specs.Logged.{LogView}
 use Rattle.ot_verify.proofs.log.Log.sound.Goals as goal
 use Rattle.ot_logic.proofs.Members.{IsMember-at}

@@ -2,12 +2,12 @@ use Rattle.std.specs.Prelude.{Err}
 use Rattle.std.proofs.Common.{◌∙◌, ℕ, List, sym, ap, subst}
 use Rattle.ot_logic.specs.Naming.{names}
 use Rattle.ot_laws.proofs.Tests.{tells_names}
-use Rattle.ot_records.specs.State.{makes_sequent}
-use Rattle.ot_records.specs.Steps.{subst_step}
-use Rattle.ot_records.proofs.StepSound.{subst-sound}
-use Rattle.ot_nodes.specs.Changing.{type_map, term_map, HasTypes, HasTerms}
-use Rattle.ot_nodes.specs.declared.node.VariableNode.{VariableNode}
-use Rattle.ot_rules.specs.Statements.{sequent_at}
+use Rattle.ot_log_format.specs.State.{makes_sequent}
+use Rattle.ot_log_format.specs.Steps.{subst_step}
+use Rattle.ot_log_format.proofs.StepSound.{subst-sound}
+use Rattle.ot_log_nodes.specs.Changing.{type_map, term_map, HasTypes, HasTerms}
+use Rattle.ot_log_nodes.specs.declared.node.VariableNode.{VariableNode}
+use Rattle.ot_log_rules.specs.Statements.{sequent_at}
 use Rattle.ot_verify.specs.Asking.{AreEach}
 use Rattle.ot_verify.specs.Finding.{FindsEach, IsFoundTypePair, IsFoundTermPair}
 use Rattle.ot_verify.specs.Held.{view_of}

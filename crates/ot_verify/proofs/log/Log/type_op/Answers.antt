@@ -5,16 +5,16 @@ use Rattle.std.proofs.Common.{ℕ, List}
 use Rattle.std.proofs.Common.{true≢false, sym}
 use Rattle.ot_logic.specs.Trees.{TyOp}
 use Rattle.std.proofs.Common.{Err}
-use Rattle.ot_records.specs.Records.{arguments}
-use Rattle.ot_records.specs.State.{makes_type}
+use Rattle.ot_log_format.specs.Records.{arguments}
+use Rattle.ot_log_format.specs.State.{makes_type}
 use Rattle.ot_verify.specs.Finding.{FindsEach}
 use Rattle.ot_verify.proofs.Places.{missed}
-use Rattle.ot_nodes.specs.Items.{HasType, types_at}
-use Rattle.ot_nodes.proofs.ItemLemmas.{has-name, name-is, has-type, type-is}
+use Rattle.ot_log_nodes.specs.Items.{HasType, types_at}
+use Rattle.ot_log_nodes.proofs.ItemLemmas.{has-name, name-is, has-type, type-is}
 use Rattle.ot_verify.specs.Asking.{IsAt, AreEach}
 use Rattle.ot_verify.proofs.Found.{types-as, types-found, types-there, types-held}
 use Rattle.ot_verify.proofs.Logging.{held_of, log-kept, state-then, named-here, made-type}
-use Rattle.ot_nodes.specs.Items.{type_at}
+use Rattle.ot_log_nodes.specs.Items.{type_at}
 use Rattle.ot_verify.specs.Held.{state_of}
 use Rattle.ot_verify.proofs.log.Log.type_op.Goals as goal
 

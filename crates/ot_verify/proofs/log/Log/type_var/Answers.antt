@@ -1,9 +1,9 @@
 use Rattle.std.proofs.Common.{◌∙◌, ap}
 use Rattle.std.proofs.Common.{true≢false, sym}
 use Rattle.ot_logic.specs.Trees.{TyVar}
-use Rattle.ot_nodes.proofs.ItemLemmas.{has-name, name-is, has-type, type-is}
+use Rattle.ot_log_nodes.proofs.ItemLemmas.{has-name, name-is, has-type, type-is}
 use Rattle.ot_verify.proofs.Logging.{held_of, log-kept, state-then, named-here, made-type}
-use Rattle.ot_nodes.specs.Items.{type_at}
+use Rattle.ot_log_nodes.specs.Items.{type_at}
 use Rattle.ot_verify.specs.Held.{state_of}
 use Rattle.ot_verify.proofs.log.Log.type_var.Goals as goal
 

@@ -1,6 +1,6 @@
 use Rattle.std.specs.Prelude.{Some}
 use Rattle.std.proofs.Common.{◌∙◌, refl, ap, rules}
-use Rattle.ot_records.specs.Check.{as_number}
+use Rattle.ot_log_format.specs.Check.{as_number}
 use Rattle.ot_verify.specs.declared.reader.Taken.TheVariants as taken
 use Rattle.ot_verify.specs.declared.fault.LogFault.TheVariants as faults
 use Rattle.ot_verify.proofs.Read.{taken-as}

@@ -1,0 +1,11 @@
+use Rattle.std.proofs.Common.{refl}
+use Rattle.ot_log_format.specs.Tokens.{Named}
+use Rattle.ot_text.proofs.Putting.{then}
+use Rattle.ot_log_page.proofs.Showing.{shows-token}
+use Rattle.ot_log_page.proofs.sheet.Sheet.put_name.Goals as goal
+
+pub returns : goal.returns
+returns c = record {
+  moves = λ ts max x s. shows-token ts max _ _ x (Named c.args.name.now)
+      (then c.put_name.ensures c.put.ensures) refl refl refl s;
+}

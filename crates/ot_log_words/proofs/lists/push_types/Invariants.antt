@@ -1,0 +1,7 @@
+use Rattle.std.proofs.Common.{◌≡◌, ◌++◌, take}
+use Rattle.std.specs.List.{flat_map}
+use Rattle.ot_log_words.specs.Listing.{type_operands}
+use Rattle.ot_log_words.proofs.lists.push_types.Given as goal
+
+abbrev pub invariant-loop-pair : goal.invariant-loop-pair
+invariant-loop-pair l = l.operands.items ≡ l.fn.operands.items ++ flat_map type_operands (take l.pair-index l.pairs)

@@ -1,5 +1,0 @@
-use Rattle.ot_nodes.proofs.ItemLemmas.{term-within}
-use Rattle.ot_nodes.proofs.table.Nodes.term_node.Goals as goal
-
-pub entry-requires : goal.entry-requires
-entry-requires c = rw c.id.view_is (term-within _ _ c.requires)

@@ -1,5 +1,0 @@
-use Rattle.ot_nodes.proofs.ItemLemmas.{type-within}
-use Rattle.ot_nodes.proofs.table.Nodes.type_node.Goals as goal
-
-pub entry-requires : goal.entry-requires
-entry-requires c = rw c.id.view_is (type-within _ _ c.requires)

@@ -1,0 +1,6 @@
+use Rattle.std.proofs.Common.{length, subst}
+use Rattle.ot_parse.specs.Frames.{BeginsWithin}
+use Rattle.ot_parse.proofs.types.read_type.Goals as goal
+
+pub types-smaller : goal.types-smaller
+types-smaller c = subst (BeginsWithin (length c.types.rest.now)) c.in-Ok-Begins.field-0-is c.in-Ok-Begins.ensures.shorter

@@ -1,8 +1,0 @@
-use Rattle.ot_sheet.proofs.Showing.{type-token}
-use Rattle.ot_sheet.proofs.sheet.Sheet.put_type.Goals as goal
-
-pub returns : goal.returns
-returns c = record {
-  moves = type-token c.args.nodes.now _ _ c.args.id c.type_number-number.result c.primitives.ensures.once
-      c.requires.ty c.type_number-number.ensures (c.put_number.ensures.moves c.args.nodes.now);
-}

@@ -1,7 +1,0 @@
-use Rattle.std.proofs.Common.{◌∙◌, sym}
-use Rattle.ot_sheet.proofs.Showing.{no-place}
-use Rattle.ot_sheet.proofs.sheet.Sheet.type_number.Goals as goal
-
-pub returns-in-None : goal.returns-in-None
-returns-in-None c = c.len.ensures.len
-    ∙ no-place _ c.args.self.now.types.keys (sym c.get_index_of.ensures.index ∙ c.in-None.is)
