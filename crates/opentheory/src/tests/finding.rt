@@ -1,6 +1,6 @@
 //! Searches for a pattern, among the exports of an input and of the packages that it requires.
+use super::devices::{answers, says};
 use super::theories::{DEFINES_IT, EQUATION, Entry, NOT_EQUATION, PROVES_IT, SYMMETRY};
-use super::{answers, says};
 use ot_program::Status;
 use std::test::Fail;
 

@@ -1,9 +1,10 @@
 //! Devices that fail at each of their calls in turn, and malformed input.
+use super::OTHER_WORDS;
+use super::devices::{
+    Answer, FINE, Outside, answered, answered_over, answers, files_of, one_file, says,
+};
 use super::tables::{FIRST, NONE, ONE};
 use super::theories::{Entry, IMPORTS, PACKAGE_CYCLE, SELF};
-use super::{
-    Answer, FINE, OTHER_WORDS, Outside, answered, answered_over, answers, files_of, one_file, says,
-};
 use ot_program::Status;
 use std::alloc::Global;
 use std::test::Fail;

@@ -1,6 +1,6 @@
 //! Proof logs.
+use super::devices::{FINE, Outside, answered, answers, joined};
 use super::tables::{FIRST, NEEDED, SUMMARIES};
-use super::{FINE, Outside, answered, answers, joined};
 use ot_program::Status;
 use std::alloc::Global;
 use std::test::Fail;

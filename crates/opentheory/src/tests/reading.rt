@@ -1,5 +1,5 @@
 //! Lines of readable text, read under the notation of a run.
-use super::says;
+use super::devices::says;
 use super::theories::{DEFINES_IT, EQUATION, Entry};
 use ot_program::Status;
 use std::test::Fail;
