@@ -2,5 +2,6 @@
 pub mod Keeping
 pub mod Reading
 pub mod Readings
+pub mod Fronts
 pub mod KnownBytes
 pub mod Places

@@ -5,5 +5,6 @@ pub mod Folder
 pub mod Keeping
 pub mod Reading
 pub mod Readings
+pub mod Whole
 pub mod MemoryStates
 pub mod FileList

@@ -8,7 +8,7 @@ use std::alloc::Global;
 
 /// Why the front of a source isn't read.
 #[derive(Clone, Copy)]
-pub enum ReadFault {
+pub(crate) enum ReadFault {
     /// The source failed.
     Failed,
     Memory(Memory),
@@ -18,7 +18,7 @@ pub enum ReadFault {
 /// than that. No more are read, whatever the answer is.
 ///
 /// `Failed` comes only where the source failed in this call.
-pub fn read_front<S: Source>(
+pub(crate) fn read_front<S: Source>(
     alloc: Global,
     source: &mut S,
     max_bytes: usize,

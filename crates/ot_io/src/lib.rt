@@ -14,14 +14,15 @@ mod mem_sink;
 mod mem_source;
 mod sink;
 mod source;
+mod whole;
 
 pub use adapters::{StdSink, StdSource};
 pub use bytes::Bytes;
 pub use dir_files::DirFiles;
 pub use files::{Files, OpenFault};
-pub use front::{ReadFault, read_front};
 pub use mem_files::MemFiles;
 pub use mem_sink::MemSink;
 pub use mem_source::MemSource;
 pub use sink::{Sink, WriteFault, write_whole};
 pub use source::{Failed, Source};
+pub use whole::{FileFault, read_file};

@@ -1,15 +1,12 @@
 -- Parts of a link that read a file.
-use Rattle.std.specs.Prelude.{IfSome, IsErrAnd, Option, Some, None, Result, Ok, Err, string_bytes, String}
+use Rattle.std.specs.Prelude.{IsErrAnd, Option, Some, None, Result, Ok, Err, string_bytes, String}
 use Rattle.std.specs.Global.{Global}
-use Rattle.std.proofs.Common.{◌≡◌, ◌+◌, ◌<◌, ◌≤◌, ◌∙◌, ℕ, List, [], ◌∷◌, length, take, refl, sym, ap, subst, inl, inr}
+use Rattle.std.proofs.Common.{◌≡◌, ◌<◌, ◌≤◌, ◌∙◌, ℕ, List, [], ◌∷◌, length, refl, sym, ap, subst, inl, inr}
 use Rattle.std.proofs.Common.{arith}
 use Rattle.std.proofs.lemmas.Bool.Decides.{leb_tells}
-use Rattle.std.proofs.lemmas.List.{take_all, length-take}
-use Rattle.ot_io.specs.Folder.{Folder, bytes_at, GivesFile}
-use Rattle.ot_io.specs.Reading.{HasRead}
+use Rattle.ot_io.specs.Folder.{Folder, bytes_at}
 use Rattle.ot_io.specs.Readings.{HasReadFiles}
-use Rattle.ot_io.proofs.Reading.{HasRead-map}
-use Rattle.ot_io.proofs.Readings.{Files-none, Files-one}
+use Rattle.ot_io.proofs.Readings.{Files-none}
 use Rattle.ot_logic.specs.Answers.{some_or}
 use Rattle.ot_logic.specs.RanOut.{ran_out}
 use Rattle.ot_kernel.specs.State as kernel
@@ -51,43 +48,22 @@ out-of-memory {told = told} k view (Err e) stated is = rw is (Files-none told _ 
 
 -- ---- the text of a theory file
 
--- what the front of a file that was opened is of its bytes
-pub file-front : (told : Option Folder) (path : List ℕ) (max : ℕ) (left left' : Option (List ℕ)) (E : Type 0)
-    (text : List ℕ) → IfSome told (λ folder. GivesFile folder path left)
-    → HasRead left left' E (λ all rest. (text ≡ take (max + 1) all) × (length all ≤ length rest + (max + 1)))
-    → HasReadFiles told
-    (λ folder. (bytes : List ℕ) × (bytes_at folder path ≡ Some bytes) × (text ≡ take (max + 1) bytes))
-file-front told path max left left' E text given h =
-    Files-one told path left left' E (λ all. text ≡ take (max + 1) all) given
-    (HasRead-map h (λ ok. ok) (λ all rest front. front.0))
-
-module _ (max : ℕ) (path text bytes : List ℕ) (front : text ≡ take (max + 1) bytes) where
-  -- within the limit it is all of them
-  within-limit : length text ≤ max → within max path bytes ≡ Ok text
-  within-limit few =
-      let all : length bytes ≤ max = omega (arith, few, ap length front, length-take (max + 1) bytes) in
-      let same : text ≡ bytes = front ∙ take_all (max + 1) bytes (omega (arith, all)) in
-      elim (leb_tells (length bytes) max) [
-        | inl fits ↦ rw (fits.0, same) refl
-        | inr more ↦ absurd (omega (arith, all, more.1))
-      ]
-
-  past-limit : max < length text → within max path bytes ≡ Err (TooLarge path)
-  past-limit many = elim (leb_tells (length bytes) max) [
-    | inl fits ↦ absurd (omega (arith, many, fits.1, ap length front, length-take (max + 1) bytes))
-    | inr more ↦ rw more.0 refl
-  ]
-
-module _ (e : Setting) (path text bytes : List ℕ) (there : bytes_at e.folder path ≡ Some bytes)
-    (front : text ≡ take (e.limits.theory_bytes + 1) bytes) where
+module _ (e : Setting) (path bytes : List ℕ) (there : bytes_at e.folder path ≡ Some bytes) where
   abbrev max : ℕ
   max = e.limits.theory_bytes
 
   answer-is : (text_at e path).answer ≡ within max path bytes
   answer-is = ap (λ o. (go_on (path ∷ []) (some_or (Missing path) o) (λ b. answered (within max path b))).answer) there
 
-  pub text-read : length text ≤ max → (text_at e path).answer ≡ Ok text
-  text-read few = answer-is ∙ within-limit max path text bytes front few
+  -- within the limit
+  pub text-read : length bytes ≤ max → (text_at e path).answer ≡ Ok bytes
+  text-read few = answer-is ∙ elim (leb_tells (length bytes) max) [
+    | inl fits ↦ rw fits.0 refl
+    | inr more ↦ absurd (omega (arith, few, more.1))
+  ]
 
-  pub text-large : max < length text → (text_at e path).answer ≡ Err (TooLarge path)
-  text-large many = answer-is ∙ past-limit max path text bytes front many
+  pub text-large : max < length bytes → (text_at e path).answer ≡ Err (TooLarge path)
+  text-large many = answer-is ∙ elim (leb_tells (length bytes) max) [
+    | inl fits ↦ absurd (omega (arith, many, fits.1))
+    | inr more ↦ rw more.0 refl
+  ]

@@ -16,11 +16,11 @@ ghost use Rattle.ot_link.specs.Answers.{setting_of, Comes, NamesSymbolIn, HasCau
 use crate::fault::LinkFault;
 use crate::setting::Setting;
 use ot_blocks::{Plan, PlanFault, plan_blocks};
-use ot_io::{Files, OpenFault, ReadFault, read_front};
+use ot_io::{FileFault, Files, read_file};
 use ot_theory::{Block, Theory, TheoryError, parse};
 use std::alloc::Global;
 
-/// The text of a theory file, which is within its limit. No more than one byte past the limit is read.
+/// The text of a theory file, which is within its limit.
 pub(crate) fn theory_text<F: Files>(
     setting: Setting<'_>,
     files: &mut F,
@@ -35,31 +35,21 @@ pub(crate) fn theory_text<F: Files>(
     ensures kept { KeepsFiles F.folder F.faults F.misses files.old files.new }
 {
     let alloc = setting.alloc;
-    let limit = setting.limits.theory_bytes;
-    match files.open_file(path) {
-        Ok(()) => match read_front(alloc, files, limit) {
-            Ok(text) => {
-                if text.len() <= limit {
-                    Ok(text)
-                } else {
-                    let path = String::from_str(alloc, path)?;
-                    Err(LinkFault::TheoryTooLarge { path })
-                }
-            }
-            Err(ReadFault::Failed) => {
-                let path = String::from_str(alloc, path)?;
-                Err(LinkFault::ReadFault { path })
-            }
-            Err(ReadFault::Memory(memory)) => Err(LinkFault::Memory(memory)),
-        },
-        Err(OpenFault::Missing) => {
+    match read_file(alloc, files, path, setting.limits.theory_bytes) {
+        Ok(text) => Ok(text),
+        Err(FileFault::TooLarge) => {
+            let path = String::from_str(alloc, path)?;
+            Err(LinkFault::TheoryTooLarge { path })
+        }
+        Err(FileFault::Missing) => {
             let path = String::from_str(alloc, path)?;
             Err(LinkFault::NoFile { path })
         }
-        Err(OpenFault::Failed) => {
+        Err(FileFault::Failed) => {
             let path = String::from_str(alloc, path)?;
             Err(LinkFault::ReadFault { path })
         }
+        Err(FileFault::Memory(memory)) => Err(LinkFault::Memory(memory)),
     }
 }
 

@@ -1,18 +1,16 @@
 -- The reading of a text under the notation of a run.
-use Rattle.std.proofs.Common.{◌≡◌, ℕ, zero, suc, ◌<◌, ◌≤◌, ◌+◌, List, [], ◌∷◌, length}
-use Rattle.std.proofs.Common.{map, take, refl, sym, ap, subst, ◌∙◌, inl, inr, ◌⊎◌, arith}
-use Rattle.std.specs.Prelude.{Bool, true, false, ◌||◌, nat_le, MatchBool, Option, Some}
+use Rattle.std.proofs.Common.{◌≡◌, ℕ, ◌<◌, ◌≤◌, List, [], length}
+use Rattle.std.proofs.Common.{map, refl, sym, ap, subst, ◌∙◌, inl, inr, ◌⊎◌}
+use Rattle.std.specs.Prelude.{Bool, true, false, ◌||◌, MatchBool, Option, Some}
 use Rattle.std.specs.Prelude.{None, IfSome, IsSomeAnd, Result, Ok, Err, IfOk, IfErr, Vec}
 use Rattle.std.specs.Global.{Global}
 use Rattle.std.proofs.lemmas.Bool.{le-leb, lt-leb}
 use Rattle.std.specs.Option.{option_map, option_and_then}
 use Rattle.ot_logic.specs.Names.{Name}
 use Rattle.ot_logic.specs.Trees.{Tm, Sequent, Symbol}
-use Rattle.ot_io.specs.Folder.{Folder, GivesFile, path_asked, bytes_at}
-use Rattle.ot_io.specs.Reading.{HasRead}
+use Rattle.ot_io.specs.Folder.{Folder, path_asked, bytes_at}
 use Rattle.ot_io.specs.Readings.{HasReadFiles}
-use Rattle.ot_io.proofs.Reading.{HasRead-map}
-use Rattle.ot_io.proofs.Readings.{Files-map, Files-one, Files-missing}
+use Rattle.ot_io.proofs.Readings.{Files-map}
 use Rattle.ot_args.specs.Grammar.{is_theory}
 use Rattle.ot_kernel.specs.State.{State}
 use Rattle.ot_machine.specs.Meaning.{IsRun}
@@ -192,67 +190,17 @@ all_stand hidden ls (Err e) stand is = tt
 
 -- ---- the bytes of a text
 
--- all but the last of so many bytes at most are all bytes
-short_take : (n : ℕ) (xs : List ℕ) → length (take (suc n) xs) ≤ n → take (suc n) xs ≡ xs
-short_take n [] h = refl
-short_take zero (x ∷ xs) h = absurd (omega (arith, h))
-short_take (suc n) (x ∷ xs) h = ap (λ z. x ∷ z) (short_take n xs (omega (arith, h)))
-
-take_within : (n : ℕ) (xs : List ℕ) → length (take n xs) ≤ length xs
-take_within zero xs = omega arith
-take_within (suc n) [] = omega arith
-take_within (suc n) (x ∷ xs) = let h = take_within n xs in omega (arith, h)
-
 module _ (text : List ℕ) where
-  fits_in : (files : Folder) (bytes all : List ℕ) → bytes_at files text ≡ Some all → bytes ≡ take (text_limit + 1) all
-      → length bytes ≤ text_limit → text_in text files ≡ Ok bytes
-  fits_in files bytes all has is short =
-      let one : text_limit + 1 ≡ suc text_limit = omega arith in
-      let taken : bytes ≡ take (suc text_limit) all = is ∙ ap (λ n. take n all) one in
-      let whole : bytes ≡ all =
-      taken ∙ short_take text_limit all (subst (λ (x : List ℕ). length x ≤ text_limit) taken short) in
-      let within : nat_le (length all) text_limit ≡ true =
-      le-leb (length all) text_limit (subst (λ (x : List ℕ). length x ≤ text_limit) whole short) in
-      rw (has, within) (ap Ok (sym whole))
+  pub text_fits : (files : Folder) (bytes : List ℕ) → bytes_at files text ≡ Some bytes → length bytes ≤ text_limit
+      → text_in text files ≡ Ok bytes
+  text_fits files bytes has short = rw (has, le-leb (length bytes) text_limit short) refl
 
-  too_large_in : (files : Folder) (bytes all : List ℕ) → bytes_at files text ≡ Some all
-      → bytes ≡ take (text_limit + 1) all
-      → text_limit < length bytes → text_in text files ≡ Err TextTooLarge
-  too_large_in files bytes all has is long =
-      let most = take_within (text_limit + 1) all in
-      let size = ap length is in
-      let past : nat_le (length all) text_limit ≡ false =
-      lt-leb (length all) text_limit (omega (arith, most, size, long)) in
-      rw (has, past) refl
+  pub text_too_long : (files : Folder) (bytes : List ℕ) → bytes_at files text ≡ Some bytes → text_limit < length bytes
+      → text_in text files ≡ Err TextTooLarge
+  text_too_long files bytes has long = rw (has, lt-leb (length bytes) text_limit long) refl
 
-  -- of a file that was opened
-  pub text_fits : {E : Type 0} (told : Option Folder) (left left' : Option (List ℕ)) (bytes : List ℕ)
-      (Rest : List ℕ → List ℕ → Type 0)
-      → IfSome told (λ folder. GivesFile folder text left)
-      → HasRead left left' E (λ all rest. (bytes ≡ take (text_limit + 1) all) × Rest all rest)
-      → length bytes ≤ text_limit
-      → HasReadFiles told (λ folder. (text_in text folder ≡ Ok bytes) × Unit {0})
-  text_fits {E} told left left' bytes Rest gives read short =
-      Files-map told _ _ (λ folder h. (fits_in folder bytes h.0 h.1 h.2 short, tt))
-      (Files-one told text left left' E (λ all. bytes ≡ take (text_limit + 1) all) gives
-      (HasRead-map read (λ e. e) (λ all rest h. h.0)))
-
-  pub text_too_long : {E : Type 0} (told : Option Folder) (left left' : Option (List ℕ)) (bytes : List ℕ)
-      (Rest : List ℕ → List ℕ → Type 0)
-      → IfSome told (λ folder. GivesFile folder text left)
-      → HasRead left left' E (λ all rest. (bytes ≡ take (text_limit + 1) all) × Rest all rest)
-      → text_limit < length bytes
-      → HasReadFiles told (λ folder. Unit {0} × (text_in text folder ≡ Err TextTooLarge))
-  text_too_long {E} told left left' bytes Rest gives read long =
-      Files-map told _ _ (λ folder h. (tt, too_large_in folder bytes h.0 h.1 h.2 long))
-      (Files-one told text left left' E (λ all. bytes ≡ take (text_limit + 1) all) gives
-      (HasRead-map read (λ e. e) (λ all rest h. h.0)))
-
-  -- of one that is missing
-  pub text_missing : (told : Option Folder) → IfSome told (λ folder. bytes_at folder text ≡ None)
-      → HasReadFiles told (λ folder. Unit {0} × (text_in text folder ≡ Err NoText))
-  text_missing told none =
-      Files-map told _ _ (λ folder is. (tt, rw is refl)) (Files-missing told text none)
+  pub text_missing : (files : Folder) → bytes_at files text ≡ None → text_in text files ≡ Err NoText
+  text_missing files none = rw none refl
 
   -- bytes that aren't read end the reading of the text
   pub text_refused : (told : Option Folder) (n : Noted) (e : ReadingRefusal)

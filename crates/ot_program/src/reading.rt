@@ -3,7 +3,7 @@ ghost use Rattle.std.specs.Prelude.{◌≡◌, ℕ, List, Ok, map, IfOk, IfErr, 
 ghost use Rattle.std.specs.List.{All};
 ghost use Rattle.ot_io.specs.Causes.{CountRose};
 ghost use Rattle.ot_io.specs.Folder.{path_asked};
-ghost use Rattle.ot_io.specs.Keeping.{KeepsSource};
+ghost use Rattle.ot_io.specs.Keeping.{KeepsFiles, KeepsSource};
 ghost use Rattle.ot_io.specs.Readings.{HasReadFiles};
 ghost use Rattle.ot_machine.specs.Meaning.{run_of, IsRun, IsExportIn};
 ghost use Rattle.ot_machine.specs.States.{fresh_run};
@@ -26,7 +26,7 @@ use crate::report::{
     Verdict, accepted, failed, missing, proved, refused, stopped, theorems_of, too_large,
 };
 use crate::texts::{column_line, line_of};
-use ot_io::{Files, OpenFault, ReadFault, Source, read_front};
+use ot_io::{FileFault, Files, Source, read_file};
 use ot_logic::{Limits, Memory};
 use ot_machine::Session;
 use ot_parse::{PlainFault, Readable, TextFault};
@@ -161,7 +161,7 @@ fn read_text<F: Files>(
     }
 }
 
-/// The bytes of the text of a path, which are within the limit. No more than one byte past it is read.
+/// The bytes of the text of a path, which are within the limit.
 fn bytes_of<F: Files>(alloc: Global, text: &str, files: &mut F) -> Result<Vec<u8>, ReadingRefusal>
     ensures read { HasReadFiles (F.folder files.old) (λ folder.
         IfOk result (λ bytes. text_in text.now folder ≡ Ok bytes.items)
@@ -172,24 +172,32 @@ fn bytes_of<F: Files>(alloc: Global, text: &str, files: &mut F) -> Result<Vec<u8
     ensures files { ClosesFiles F.folder F.faults F.misses F.left files.old files.new }
     ensures at { F.at files.new ≡ path_asked (F.folder files.old) text.now }
 {
-    match files.open_file(text) {
-        Ok(()) => {
-            let read = read_front(alloc, files, TEXT_LIMIT);
-            files.close();
-            match read {
-                Ok(bytes) => {
-                    if bytes.len() <= TEXT_LIMIT {
-                        Ok(bytes)
-                    } else {
-                        Err(ReadingRefusal::TooLarge)
-                    }
-                }
-                Err(ReadFault::Failed) => Err(ReadingRefusal::ReadFault),
-                Err(ReadFault::Memory(memory)) => Err(ReadingRefusal::Memory(memory)),
-            }
-        }
-        Err(OpenFault::Missing) => Err(ReadingRefusal::NoFile),
-        Err(OpenFault::Failed) => Err(ReadingRefusal::ReadFault),
+    let read = opened_bytes(alloc, text, files);
+    files.close();
+    read
+}
+
+/// The same, where the file stays open.
+fn opened_bytes<F: Files>(
+    alloc: Global,
+    text: &str,
+    files: &mut F,
+) -> Result<Vec<u8>, ReadingRefusal>
+    ensures read { HasReadFiles (F.folder files.old) (λ folder.
+        IfOk result (λ bytes. text_in text.now folder ≡ Ok bytes.items)
+        × IfErr result (IsTextRefusal (text_in text.now folder))) }
+    ensures cause { IfErr result
+        (λ e. IsTextCause e (FileFailed (F.at files.new) (F.faults files.old) (F.faults files.new) text.now)
+        (CountRose (F.misses files.old) (F.misses files.new))) }
+    ensures kept { KeepsFiles F.folder F.faults F.misses files.old files.new }
+    ensures at { F.at files.new ≡ path_asked (F.folder files.old) text.now }
+{
+    match read_file(alloc, files, text, TEXT_LIMIT) {
+        Ok(bytes) => Ok(bytes),
+        Err(FileFault::Missing) => Err(ReadingRefusal::NoFile),
+        Err(FileFault::TooLarge) => Err(ReadingRefusal::TooLarge),
+        Err(FileFault::Failed) => Err(ReadingRefusal::ReadFault),
+        Err(FileFault::Memory(memory)) => Err(ReadingRefusal::Memory(memory)),
     }
 }
 

@@ -10,7 +10,7 @@ ghost use Rattle.std.specs.Option.{option_map};
 ghost use Rattle.ot_repo.specs.Reading.{sized_at};
 
 use crate::fault::RepoFault;
-use ot_io::{Files, OpenFault, ReadFault, read_front};
+use ot_io::{FileFault, Files, read_file};
 use ot_theory::{Theory, TheoryError, parse};
 use std::alloc::Global;
 
@@ -62,7 +62,7 @@ pub(crate) fn index_text<F: Files>(
     }
 }
 
-/// The bytes of a file, where it has no more than so many; no more than one further byte is read.
+/// The bytes of a file, where it has no more than so many.
 fn file_text<F: Files>(
     alloc: Global,
     files: &mut F,
@@ -76,23 +76,18 @@ fn file_text<F: Files>(
     ensures kept { KeepsFiles F.folder F.faults F.misses files.old files.new }
     ensures failure { IfErr result (FailsAt (λ failed. failed ≡ path.now)) }
 {
-    match files.open_file(path) {
-        Ok(()) => match read_front(alloc, files, max_bytes) {
-            Ok(text) => Ok(Some(text).filter(|text| text.len() <= max_bytes)),
-            Err(ReadFault::Failed) => {
-                let path = String::from_str(alloc, path)?;
-                Err(RepoFault::ReadFault { path })
-            }
-            Err(ReadFault::Memory(memory)) => Err(RepoFault::Memory(memory)),
-        },
-        Err(OpenFault::Missing) => {
+    match read_file(alloc, files, path, max_bytes) {
+        Ok(text) => Ok(Some(text)),
+        Err(FileFault::TooLarge) => Ok(None),
+        Err(FileFault::Missing) => {
             let path = String::from_str(alloc, path)?;
             Err(RepoFault::NoFile { path })
         }
-        Err(OpenFault::Failed) => {
+        Err(FileFault::Failed) => {
             let path = String::from_str(alloc, path)?;
             Err(RepoFault::ReadFault { path })
         }
+        Err(FileFault::Memory(memory)) => Err(RepoFault::Memory(memory)),
     }
 }
 
