@@ -1,6 +1,6 @@
 -- Lemmas on the table of terms.
-use Rattle.std.proofs.Common.{◌≡◌, ℕ, suc, ◌<◌, ◌≤◌, Bool, true, false, ◌&&◌, nat_eq}
-use Rattle.std.proofs.Common.{eq-eqb, true≢false, position, Option, None, is_some, List, [], ◌∷◌}
+use Rattle.std.proofs.Common.{◌≡◌, ℕ, suc, ◌<◌, ◌≤◌, Bool, true, ◌&&◌, nat_eq}
+use Rattle.std.proofs.Common.{eq-eqb, position, None, List, [], ◌∷◌}
 use Rattle.std.proofs.Common.{◌++◌, length, slice_get, get_or, Some, refl, sym, ap, subst, ◌∙◌, arith}
 use Rattle.std.proofs.lemmas.List.{length-map}
 use Rattle.std.proofs.lemmas.Option.{get_or_from_slice_get, slice_get-get_or, same_Some}
@@ -11,8 +11,8 @@ use Rattle.ot_logic.specs.Table.{Extends, IsInjective}
 use Rattle.ot_logic.specs.Interned.{NodeLaws, grow}
 use Rattle.ot_logic.proofs.TableLemmas.{Extends-refl, get_or-Extends, get_or-IsInjective}
 use Rattle.ot_logic.proofs.InternedLemmas.{entry_at, found, pushed}
-use Rattle.indexmap.specs.IndexMap.{IndexMap, keys, get, insert_entry, insert_index, ContainsKey}
-use Rattle.indexmap.proofs.MapLemmas.{Found-position, some_index, index-absent, or_len-absent, absent_from_lookup}
+use Rattle.indexmap.specs.IndexMap.{IndexMap, keys, get, insert_entry, insert_index}
+use Rattle.indexmap.proofs.MapLemmas.{index-absent, or_len-absent, absent_from_lookup}
 use Rattle.ot_type.specs.TypeTable.{type_at, IsTypeTable}
 use Rattle.ot_type.proofs.TypeTableLemmas.{type_at-Extends}
 use Rattle.ot_class.specs.Class.{ClassTable, IsNumber, IsNumberOf, Grows as ClassesGrow, AreOnce}
@@ -350,17 +350,6 @@ module _ {S : Type 0} (tys : List (Ty ℕ)) (cs : ClassTable) (m : IndexMap Term
       → IsFormBelow cs (form_with (classes_of m.entries) n)
   classes_below below = form_below cs (length m.entries) (classes_of m.entries)
       (classes_within tys cs m.entries sound) n (parts_below tys cs m.entries sound t view n below)
-
-  pub looked_up : ContainsKey node_eq m n → (i : ℕ) → i ≡ insert_index node_eq m n
-      → slice_get t.terms i ≡ Some (term_of t.types t.terms n)
-  looked_up there i at = by (position (node_eq n) (keys m)) refl
-    where
-      by : (r : Option ℕ) → position (node_eq n) (keys m) ≡ r → slice_get t.terms i ≡ Some (term_of t.types t.terms n)
-      by (Some j) p =
-          let place : j ≡ i = sym (at ∙ (Found-position (node_eq n) m.entries j p).or_len) in
-          subst (λ k. slice_get t.terms k ≡ Some (term_of t.types t.terms n)) place
-          (found_term tys cs m sound n t view j p)
-      by None p = absurd (true≢false (sym there ∙ sym (some_index (node_eq n) m.entries) ∙ ap is_some p))
 
   -- the class was added before
   pub put_in : (ds : ClassTable) → ClassesGrow cs ds → AreOnce ds → (b : NodeInfo)

@@ -2,6 +2,7 @@
 pub mod Term
 pub mod TermTable
 pub mod NodeHash
+pub mod Greatest
 pub mod Classing
 pub mod Equality
 pub mod Fault

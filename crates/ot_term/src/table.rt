@@ -20,9 +20,9 @@ mod walk;
 
 use crate::term::{TermId, TermNode, VarKey};
 use indexmap::IndexMap;
-use indexmap::map::Entry;
 use ot_class::{ClassId, Classes, Key};
 use ot_logic::{Memory, NameId};
+use ot_near::NearMap;
 use ot_type::{TypeId, Types};
 use std::alloc::Global;
 use std::marker::Model;
@@ -50,7 +50,7 @@ pub struct Terms {
     types: Types,
     // Classes over the numbers of the types; there may be more than the terms have.
     classes: Classes,
-    nodes: IndexMap<TermNode, NodeInfo>,
+    nodes: NearMap<TermNode, NodeInfo>,
     // By types, where the constant `=` at a type may stand: what is found is looked at before it is used.
     equalities: IndexMap<TypeId, TermId>,
 }
@@ -79,7 +79,7 @@ impl Terms {
         Terms {
             types: Types::new(alloc),
             classes: Classes::new(alloc),
-            nodes: IndexMap::new(alloc),
+            nodes: NearMap::new(alloc),
             equalities: IndexMap::new(alloc),
         }
     }
@@ -159,7 +159,7 @@ impl Terms {
             ≡ Some (term_of self.now.types self.now.terms node.now)) }
         ensures table { IsTermTable self.now }
     {
-        let index = self.nodes.get_index_of(node)?;
+        let index = self.nodes.find(*node)?;
         match u32::try_from(index) {
             Ok(number) => Some(TermId(number)),
             Err(_) => None,
@@ -180,21 +180,21 @@ impl Terms {
         ensures table { IsTermTable self.new }
     {
         Memory::unless_full(self.nodes.len())?;
-        let form = with_classes(&self.nodes, &node);
-        match self.nodes.entry(node)? {
-            Entry::Occupied(entry) => Ok(TermId(entry.index() as u32)),
-            Entry::Vacant(entry) => {
+        match self.nodes.find(node) {
+            Some(index) => Ok(TermId(index as u32)),
+            None => {
+                let form = with_classes(&self.nodes, &node);
                 let class = class_of(&mut self.classes, form)?;
-                let index = entry.index() as u32;
-                entry.insert(NodeInfo { ty, depth, class });
-                Ok(TermId(index))
+                let beside = NodeInfo { ty, depth, class };
+                let (index, _) = self.nodes.insert_full(node, beside)?;
+                Ok(TermId(index as u32))
             }
         }
     }
 }
 
 /// A node with the classes that stand beside its parts.
-fn with_classes(nodes: &IndexMap<TermNode, NodeInfo>, node: &TermNode) -> Form
+fn with_classes(nodes: &NearMap<TermNode, NodeInfo>, node: &TermNode) -> Form
     requires parts { PartsBelow (length nodes.now.entries) node.now }
     ensures { result ≡ form_with (classes_of nodes.now.entries) node.now }
 {
@@ -232,7 +232,7 @@ fn key_of(v: VarKey) -> Key
 }
 
 /// The class beside a node.
-fn class_beside(nodes: &IndexMap<TermNode, NodeInfo>, id: TermId) -> ClassId
+fn class_beside(nodes: &NearMap<TermNode, NodeInfo>, id: TermId) -> ClassId
     requires { id < length nodes.now.entries }
     ensures { result ≡ slice_index_or (classes_of nodes.now.entries) id 0 }
 {

@@ -1,9 +1,11 @@
 //! Terms by number, the symbols in them, and why a table has no number for a term.
 ghost use Rattle.std.specs.Prelude.{◌≡◌};
 ghost use Rattle.ot_term.specs.NodeHash.{node_writes, node_writes-alike};
+ghost use Rattle.ot_term.specs.Greatest.{greatest_part, greatest_part-alike};
 ghost use Rattle.ot_logic.specs.RanOut.{ran_out};
 
 use ot_logic::{Memory, NameId};
+use ot_near::Refers;
 use ot_type::{TableFault, TypeId};
 use std::hash::{Hash, Hasher};
 use std::marker::Model;
@@ -83,6 +85,22 @@ impl Hash for TermNode {
                 v.hash(state);
                 body.hash(state);
             }
+        }
+    }
+}
+
+// The table looks for a node near its greatest part, which is mostly a young one.
+impl Refers for TermNode {
+    ghost greatest = { greatest_part };
+
+    ghost greatest_alike = { greatest_part-alike };
+
+    fn greatest(&self) -> Option<u32> {
+        match *self {
+            TermNode::Var(_) => None,
+            TermNode::Const(_, _) => None,
+            TermNode::App(f, x) => Some(f.0.max(x.0)),
+            TermNode::Abs(_, body) => Some(body.0),
         }
     }
 }
