@@ -4,33 +4,30 @@ use Rattle.std.proofs.Common.{Some, refl, sym, ap, subst, ◌∙◌, inl, inr, a
 use Rattle.std.proofs.lemmas.Option.{get_or_from_slice_get, slice_get_within}
 use Rattle.ot_logic.specs.Lists.{IsMember}
 use Rattle.ot_logic.specs.Names.{Name}
-use Rattle.ot_logic.specs.Trees.{Ty, TyVar, Variable, Tm, Free, Named, NAbs}
+use Rattle.ot_logic.specs.Trees.{Ty, TyVar, Variable, Tm, Free, NAbs}
 use Rattle.ot_logic.specs.Hol.{TypeMap, inst, inst_var, type_at as type_for}
 use Rattle.ot_logic.specs.Hol.{IsFree, is_shallow, depth_ty, depth_limit}
 use Rattle.ot_logic.specs.NamedTerms.{Renaming, image, nameless, named_type, IsFreeIn, IsApart}
 use Rattle.ot_logic.specs.Naming.{numbers}
-use Rattle.ot_logic.specs.Bounds.{bound_named}
 use Rattle.ot_laws.specs.Walk.{NamedMap, nameless_map}
 use Rattle.ot_laws.proofs.Tests.{tells_numbers, var_cases}
 use Rattle.ot_laws.proofs.Terms.{bind-agree}
-use Rattle.ot_laws.proofs.New.{IsOld, old-terms, apart-new}
 use Rattle.ot_type.specs.TypeTable.{type_at}
 use Rattle.ot_type.proofs.TypeTableLemmas.{type_at-Extends}
 use Rattle.ot_term.specs.Term.{TermTable}
 use Rattle.ot_term.specs.TermTable.{term_at, variable_of, Grows, IsGrownTo}
 use Rattle.ot_term.specs.declared.term.VarKey.{VarKey}
-use Rattle.ot_term.proofs.NamesIn.{bound_named-term_at}
 use Rattle.ot_term.proofs.Growing.{Grows-refl, Grows-trans, term_at-Grows, variable_of-Grows}
 use Rattle.ot_subst.specs.Substitution.{Substitution, type_part, named_part, variable_part}
 use Rattle.ot_subst.specs.Renamed.{renaming_of}
-use Rattle.ot_subst.specs.Walk.{carried, becomes, IsRenamed, AreReady, NamesBelow, IsSetUp, IsLater, bound_of}
-use Rattle.ot_subst.specs.Clash.{MayStay, IsUnclashing}
+use Rattle.ot_subst.specs.Walk.{carried, becomes, IsRenamed, AreReady, NamesBelow, IsSetUp, IsLater}
+use Rattle.ot_subst.specs.Clash.{StaysApart, MayStay, IsUnclashing}
 use Rattle.ot_subst.specs.Memory.{IsMemory, IsWalked, IsCounted}
 use Rattle.ot_subst.proofs.Becoming.{AreTyped, deep-abs_type, deep-abs_body}
 use Rattle.ot_subst.proofs.Growing.{type_part-Grows, named_part-Grows}
 use Rattle.ot_subst.proofs.Growing.{renaming_of-Grows, becomes_at-Grows, AreReady-Grows, IsSetUp-Grows, below-twice}
 use Rattle.ot_subst.proofs.Walked.{IsMemory-Grows, kept_form, walked-kept, renamed_form, walked-renamed}
-use Rattle.ot_logic.proofs.Members.{IsMember-map_back, All-at_member}
+use Rattle.ot_logic.proofs.Members.{IsMember-map_back}
 
 -- the new binders have their types
 pub typed-renaming : (t : TermTable) (s : Substitution) (r : List (VarKey × VarKey))
@@ -131,6 +128,27 @@ module _ {k : ℕ} {t u : TermTable} {s : Substitution} {r : List (VarKey × Var
       (nameless_map numbers (sym same_terms i)) (sym same_binder i) (sym same_body i) in
       h nil (subst (λ (P : Type 0). P) p apart)
 
+  -- the binder, with this name, captures no other variable of the body
+  abbrev pub CapturesNone : ℕ → Type 0
+  CapturesNone name = (y : Variable ℕ) → IsFreeIn numbers y (term_at t.terms body) → (y ≡ variable_of t.types v → ⊥)
+      → ¬ (IsFree numbers (record { name = name; ty = inst numbers (type_part t s) (type_at t.types v.ty) })
+      (image numbers (renaming_of t.types r) (type_part t s) (variable_part t s) y))
+
+  pub apart-before : {w : TermTable} → IsGrownTo 0 u w → (name : ℕ)
+      → StaysApart w s r v (record { name = name; ty = ty }) body → CapturesNone name
+  apart-before {w} uw name h =
+      let g = Grows-trans had.grown.grows uw.grows in
+      let types = type_part-Grows t w g s had.set_up.ready.subst in
+      let terms = named_part-Grows t w g s had.set_up.ready.subst in
+      let renaming = renaming_of-Grows t w g s had.set_up.ready.subst r had.set_up.ready.binders in
+      let tree = term_at-Grows t w g body had.body_within in
+      let binder = variable_of-Grows t w g v had.type_within in
+      let new = instance-later name uw.grows in
+      let p : StaysApart w s r v (record { name = name; ty = ty }) body ≡ CapturesNone name
+      = λ i. (y : Variable ℕ) → IsFreeIn numbers y (tree i) → (y ≡ binder i → ⊥)
+      → ¬ (IsFree numbers (new i) (image numbers (renaming i) (types i) (nameless_map numbers (terms i)) y)) in
+      subst (λ (P : Type 0). P) p h
+
   -- where the binder clashes, no number of steps is promised
   pub none-counted : {m0 : List (ℕ × ℕ)} {n0 n1 k : ℕ} → (r ≡ [] → ¬ (IsUnclashing u s v body))
       → IsCounted t s r m0 n0 n1 (NAbs (variable_of t.types v) (term_at t.terms body)) k
@@ -200,29 +218,8 @@ module _ {k : ℕ} {t u : TermTable} {s : Substitution} {r : List (VarKey × Var
         h.itself ∙ sym (becomes_at-Grows t w tw s had.set_up.ready.subst r had.set_up.ready.binders body
         had.body_within)) ∙ deep)
 
-    -- the binder gets a name that is new
-    module _ (name : ℕ) (new : k ≤ name) (bound : bound_named (term_at t.terms body) ≤ k) where
-      bound-binder : (r : List (VarKey × VarKey)) (p : Variable ℕ × Variable ℕ) → bound_of r ≤ k
-          → IsMember p (renaming_of t.types r) → p.1.name < k
-      bound-binder [] p h i = absurd i
-      bound-binder (q ∷ r) p h (inl e) = let n : q.1.name ≡ p.1.name =
-          ap (λ (z : Variable ℕ × Variable ℕ). z.1.name) e in omega arith
-      bound-binder (q ∷ r) p h (inr i) = bound-binder r p (omega arith) i
-
-      old : IsOld k (renaming_of t.types r) (variable_part t s)
-      old = record {
-        binders = λ p i. bound-binder r p had.set_up.bound i;
-        terms = old-terms k (named_part t s) (λ p i.
-            let (q, m, e) = IsMember-map_back (λ (z : VarKey × ℕ). (variable_of t.types z.0, term_at t.terms z.1)) p
-            s.terms i in
-            let within : q.1 < length t.terms =
-            All-at_member (λ (z : VarKey × ℕ). z.1 < length t.terms) s.terms q had.set_up.ready.subst.terms m in
-            let size = ap (λ (z : Variable ℕ × Named ℕ). bound_named z.1) e in
-            let most = bound_named-term_at t.terms q.1 within in
-            let all = had.set_up.names.terms in
-            omega arith);
-      }
-
+    -- the binder gets another name, under which it captures nothing
+    module _ (name : ℕ) (apart : CapturesNone name) where
       pub typed-new : (variable_of w.types (record { name = name; ty = ty })).ty ≡ inst numbers (type_part t s)
           (variable_of t.types v).ty
       typed-new = ap (λ (z : Variable ℕ). z.ty) (instance-later name uw.grows)
@@ -230,8 +227,9 @@ module _ {k : ℕ} {t u : TermTable} {s : Substitution} {r : List (VarKey × Var
       pub apart_new : (y : Variable ℕ) → IsFreeIn numbers y (term_at t.terms body) → (y ≡ variable_of t.types v → ⊥)
           → ¬ (IsFree numbers (variable_of w.types (record { name = name; ty = ty }))
           (image numbers (renaming_of t.types r) (type_part t s) (variable_part t s) y))
-      apart_new = apart-new k (variable_of w.types (record { name = name; ty = ty })) (variable_of t.types v)
-          (renaming_of t.types r) (type_part t s) (variable_part t s) (term_at t.terms body) new old bound
+      apart_new y i d f =
+          apart y i d (subst (λ z. IsFree numbers z (image numbers (renaming_of t.types r) (type_part t s)
+          (variable_part t s) y)) (instance-later name uw.grows) f)
 
       new-binder : IsRenamed w s (v, record { name = name; ty = ty })
       new-binder = record {

@@ -1,15 +1,12 @@
 -- What stays when a table grows.
-use Rattle.std.specs.Prelude.{Option, Some, None, Vec}
-use Rattle.std.specs.Global.{Global}
 use Rattle.std.proofs.Common.{◌≡◌, ℕ, ◌<◌, ◌≤◌, inl, inr, List, [], ◌∷◌}
 use Rattle.std.proofs.Common.{map, length, refl, sym, ap, subst, ◌∙◌, arith}
 use Rattle.std.specs.List.{All}
 use Rattle.std.proofs.lemmas.List.Elements.{All-head, All-tail}
-use Rattle.ot_logic.proofs.Members.{All-at_member}
 use Rattle.ot_logic.specs.Lists.{IsMember}
 use Rattle.ot_logic.specs.Names.{Name}
 use Rattle.ot_logic.specs.Trees.{Variable, Tm, Named}
-use Rattle.ot_logic.specs.Hol.{inst, IsTyped, IsFree}
+use Rattle.ot_logic.specs.Hol.{inst, IsTyped}
 use Rattle.ot_logic.specs.NamedTerms.{nameless}
 use Rattle.ot_logic.specs.Naming.{numbers}
 use Rattle.ot_logic.proofs.TableLemmas.{Extends-refl, Extends-trans}
@@ -22,7 +19,6 @@ use Rattle.ot_term.specs.declared.term.VarKey.{VarKey}
 use Rattle.ot_term.proofs.Growing.{Grows-refl, Grows-trans, term_at-Grows, variable_of-Grows}
 use Rattle.ot_subst.specs.Substitution.{Substitution, type_part, named_part, IsSubstOf}
 use Rattle.ot_subst.specs.Renamed.{renaming_of}
-use Rattle.ot_subst.specs.Clash.{AreFrees, AreKnown}
 use Rattle.ot_subst.specs.Walk.{carried, becomes, HasForm, IsRenamed, AreReady, NamesBelow, IsSetUp, IsLater}
 
 module _ (t u : TermTable) (g : Grows t u) where
@@ -85,33 +81,6 @@ module _ (t u : TermTable) (g : Grows t u) where
     AreReady-Grows r ready table =
         record { table = table; subst = IsSubstOf-Grows; binders = λ p i. IsRenamed-Grows p (ready.binders p i) }
 
-    same_keys : (frees : List VarKey) → All (λ y. y.ty < length t.types) frees → map (variable_of u.types) frees
-        ≡ map (variable_of t.types) frees
-    same_keys [] h = refl
-    same_keys (y ∷ frees) h =
-        let head = variable_of-Grows t u g y (All-head (λ (z : VarKey). z.ty < length t.types) y frees h) in
-        let tail = same_keys frees (All-tail (λ (z : VarKey). z.ty < length t.types) y frees h) in
-        λ i. head i ∷ tail i
-
-    pub AreFrees-Grows : (frees : List VarKey) → AreFrees t s frees → AreFrees u s frees
-    AreFrees-Grows frees h = record {
-      inside = λ k d i. omega (arith, h.inside k d i, g.types.longer);
-      to = λ y m.
-          let (p, i, f) = h.to y m in
-          let within = All-at_member (λ (z : VarKey). z.ty < length t.types) frees y h.inside m in (
-            p,
-            subst (λ n. IsMember p (nameless_map numbers n)) (sym named_part-Grows) i,
-            subst
-                (λ v. IsFree numbers v p.1) (sym (variable_of-Grows t u g y within)) f,
-          );
-      back = λ p i x f. subst (IsMember x) (sym (same_keys frees h.inside))
-          (h.back p (subst (λ n. IsMember p (nameless_map numbers n)) named_part-Grows i) x f);
-    }
-
-    pub AreKnown-Grows : (known : Option (Vec VarKey Global)) → AreKnown t s known → AreKnown u s known
-    AreKnown-Grows (Some frees) h = AreFrees-Grows frees.items h
-    AreKnown-Grows None h = tt
-
     pub IsSetUp-Grows : (j k : ℕ) (r : List (VarKey × VarKey)) → IsSetUp j t s r → j ≤ k → IsTermTable u
         → NamesBelow k u → IsSetUp k u s r
     IsSetUp-Grows j k r set le table names = record {
@@ -165,11 +134,3 @@ IsLater-table j ns t u h g le = record {
   table = g.table;
   names = below-UpTo j (length ns) t u h g.names le;
 }
-
--- what was found in u holds in v too
-pub known-later : {t u v : TermTable} → Grows t u → Grows u v → {s : Substitution} {r : List (VarKey × VarKey)}
-    → AreReady t s r → IsTermTable u
-    → (known : Option (Vec VarKey Global)) → AreKnown u s known → AreKnown v s known
-known-later {t} {u} {v} tu uv {s} {r} ready table known h =
-    let later = AreReady-Grows t u tu s ready.subst r ready table in
-    AreKnown-Grows u v uv s later.subst known h

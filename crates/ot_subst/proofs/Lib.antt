@@ -6,8 +6,9 @@ pub mod Keys
 pub mod Growing
 pub mod Variables
 pub mod Faults
+pub mod Catching
 pub mod Binders
-pub mod Frees
+pub mod NewNames
 pub mod Unchanged
 pub mod Walked
 pub mod Abstraction

@@ -2,10 +2,9 @@
 use Rattle.std.specs.Prelude.{OnOk, OnErr}
 use Rattle.std.proofs.Common.{◌≡◌, ℕ, ◌<◌, Bool, true, false, cond, length, Result, Ok, Err}
 use Rattle.std.proofs.Common.{List, [], ◌∷◌, ◌++◌, Some, None, is_some, refl, sym, ap, subst, ◌∙◌}
-use Rattle.std.specs.List.{All}
 use Rattle.std.specs.Map.{lookup}
 use Rattle.std.proofs.lemmas.List.{append_assoc}
-use Rattle.std.proofs.lemmas.List.Elements.{All-push, All-tail}
+use Rattle.std.proofs.lemmas.List.Elements.{All-push}
 use Rattle.std.proofs.lemmas.Option.{none-some}
 use Rattle.ot_logic.specs.Trees.{Variable, Tm}
 use Rattle.ot_logic.specs.Hol.{TermMap, HasType, IsTyped}
@@ -52,11 +51,6 @@ none-others p (d ∷ xs) ys e = go (p d.0) e (none-others p xs ys)
         → (lookup p (xs ++ ys) ≡ None → lookup p ys ≡ None) → lookup p ys ≡ None
     go true e f = absurd (none-some d.1 (sym e))
     go false e f = f e
-
--- what holds of all pairs holds of those that come after
-pub All-others : {X : Type 0} (P : X → Type 0) (xs ys : List X) → All P (xs ++ ys) → All P ys
-All-others P [] ys h = h
-All-others P (x ∷ xs) ys h = All-others P xs ys (All-tail P x (xs ++ ys) h)
 
 -- ---- a pair that is added
 pub added-other : {S : Type 0} (tys : List (ℕ × ℕ)) (xs new : List (VarKey × ℕ)) (m : IndexMap VarKey ℕ S)

@@ -1,29 +1,26 @@
 -- What a node that was taken up tells of its parts, and what the memory tells of a term.
-use Rattle.std.specs.Prelude.{IfOk, OnOk, OnErr, nat_eq}
+use Rattle.std.specs.Prelude.{IfOk, OnErr, nat_eq}
 use Rattle.std.proofs.Common.{◌≡◌, ℕ, ◌<◌, ◌≤◌, Bool, true, false, cond, List, [], ◌∷◌, length, slice_get, Some}
 use Rattle.std.proofs.Common.{None, Result, Ok, Err, refl, sym, ap, ◌∙◌, inl, inr, eqb-true, eq-eqb, arith}
 use Rattle.std.specs.Map.{lookup}
 use Rattle.std.proofs.lemmas.Option.{get_or_from_slice_get, none-some, same_Some}
 use Rattle.ot_logic.specs.Lists.{IsMember}
-use Rattle.ot_logic.specs.Names.{Name}
-use Rattle.ot_logic.specs.Table.{Extends}
 use Rattle.ot_logic.specs.Trees.{Ty, TyVar, Named, NApp, NConst}
 use Rattle.ot_logic.specs.Hol.{inst, fun_ty}
 use Rattle.ot_logic.specs.NamedTerms.{named_type, nameless}
-use Rattle.ot_logic.specs.Naming.{numbers, IsNameTable}
+use Rattle.ot_logic.specs.Naming.{numbers}
 use Rattle.ot_logic.specs.Bounds.{bound_named}
 use Rattle.ot_laws.proofs.Tests.{tells_numbers}
 use Rattle.ot_laws.proofs.Typing.{applied-some}
 use Rattle.ot_term.specs.Term.{TermTable}
-use Rattle.ot_term.specs.TermTable.{term_at, term_of, AreBelow, IsTermTable}
+use Rattle.ot_term.specs.TermTable.{term_at, term_of, AreBelow}
 use Rattle.ot_term.specs.declared.term.VarKey.{VarKey}
 use Rattle.ot_term.specs.declared.term.TermNode.{TermNode}
 use Rattle.ot_term.specs.declared.term.TermNode.TheVariants.{Var, Const, App, Abs}
 use Rattle.ot_term.proofs.NamesIn.{bound_named-term_at}
-use Rattle.ot_term.proofs.Growing.{Grows-refl}
 use Rattle.ot_subst.specs.Substitution.{Substitution, type_part, named_part}
 use Rattle.ot_subst.specs.Renamed.{renaming_of}
-use Rattle.ot_subst.specs.Walk.{becomes, AreReady, NamesBelow, IsLater}
+use Rattle.ot_subst.specs.Walk.{becomes, AreReady, NamesBelow}
 use Rattle.ot_subst.specs.Memory.{above, keys}
 use Rattle.ot_subst.proofs.Becoming.{result-typed}
 use Rattle.ot_subst.proofs.Abstraction.{typed-renaming}
@@ -105,21 +102,7 @@ absent-lookup (e ∷ es) id n = go (nat_eq id e.0) refl (absent-lookup es id (λ
     go true p f = absurd (n (inl (sym (eqb-true id e.0 p))))
     go false p f = f
 
--- ---- a new name
-pub later-name : (ns ms : List Name) (t : TermTable) → Extends ns ms → IsNameTable ms → IsTermTable t
-    → NamesBelow (length ns) t → IsLater ns ms t t
-later-name ns ms t more table terms low = record {
-  extends = more;
-  name_table = λ _. table;
-  grows = Grows-refl t;
-  table = terms;
-  names = record { types = omega (arith, low.types, more.longer); terms = omega (arith, low.terms, more.longer) };
-}
-
-pub on_ok : {A E : Type 0} (r : Result A E) (P : Type 0) → P → OnOk r P
-on_ok (Ok a) P p = p
-on_ok (Err e) P p = tt
-
+-- ---- a refusal
 pub on_err : {X E : Type 0} (res : Result X E) (P : Type 0) → P → OnErr res P
 on_err (Ok x) P p = tt
 on_err (Err e) P p = p

@@ -148,13 +148,11 @@ module _ (t : TermTable) (s : Substitution) (r : List (VarKey × VarKey)) (v : V
     other = image-other t s ready.table.types (variable_part t s) v inside r ready.binders absent
 
     -- no term is put in for a variable whose type is not in the table
-    pub becomes-deep : depth_limit < depth_ty numbers (inst numbers (type_part t s) (type_at t.types v.ty))
-        → is_shallow numbers (becomes t s r (Free (variable_of t.types v))) ≡ false
-    becomes-deep deep =
-        ap (is_shallow numbers)
-        (other ∙ term_at-kept numbers tells_numbers (variable_part t s)
-        (inst_var numbers (type_part t s) (variable_of t.types v)) away)
-        ∙ deep-free (inst_var numbers (type_part t s) (variable_of t.types v)) deep
+    pub becomes-outside : depth_limit < depth_ty numbers (inst numbers (type_part t s) (type_at t.types v.ty))
+        → becomes t s r (Free (variable_of t.types v)) ≡ Free (inst_var numbers (type_part t s) (variable_of t.types v))
+    becomes-outside deep =
+        other ∙ term_at-kept numbers tells_numbers (variable_part t s)
+        (inst_var numbers (type_part t s) (variable_of t.types v)) away
       where
         away : (p : Variable ℕ × Tm ℕ) → IsMember p (variable_part t s)
             → p.0 ≢ inst_var numbers (type_part t s) (variable_of t.types v)
@@ -172,6 +170,11 @@ module _ (t : TermTable) (s : Substitution) (r : List (VarKey × VarKey)) (v : V
             ∙ ap (λ (z : Variable ℕ). z.ty) e in
             let depth = ap (depth_ty numbers) same in
             omega (arith, deep, low, depth)
+
+    pub becomes-deep : depth_limit < depth_ty numbers (inst numbers (type_part t s) (type_at t.types v.ty))
+        → is_shallow numbers (becomes t s r (Free (variable_of t.types v))) ≡ false
+    becomes-deep deep = ap (is_shallow numbers) (becomes-outside deep)
+        ∙ deep-free (inst_var numbers (type_part t s) (variable_of t.types v)) deep
 
     -- u is the table after the type was instantiated, and ty the number of the instance
     module _ (u : TermTable) (ty : ℕ) (grown : IsGrownTo 0 t u)
@@ -201,11 +204,16 @@ module _ (t : TermTable) (s : Substitution) (r : List (VarKey × VarKey)) (v : V
           (put-found u grown.table.types key (slice_get_within u.types ty _ instance) s.terms
           later.variables later.terms id e)
 
+      pub becomes-itself : lookup (same_key (record { name = v.name; ty = ty })) s.terms ≡ None
+          → becomes t s r (Free (variable_of t.types v))
+          ≡ Free (variable_of u.types (record { name = v.name; ty = ty }))
+      unfolding key
+      becomes-itself e = now
+          ∙ put-none u grown.table.types key (slice_get_within u.types ty _ instance) s.terms later.variables e
+
       pub becomes-kept : (w : TermTable) (id : ℕ) → lookup (same_key (record { name = v.name; ty = ty })) s.terms
           ≡ None → slice_get w.terms id ≡ Some (NVar (variable_of u.types (record { name = v.name; ty = ty })))
           → HasForm w id (becomes t s r (Free (variable_of t.types v)))
-      unfolding key
       becomes-kept w id e at =
-          made w id (NVar (variable_of u.types key)) (becomes t s r (Free (variable_of t.types v))) at
-          (sym (now ∙ put-none u grown.table.types key (slice_get_within u.types ty _ instance) s.terms
-          later.variables e))
+          made w id (NVar (variable_of u.types (record { name = v.name; ty = ty })))
+          (becomes t s r (Free (variable_of t.types v))) at (sym (becomes-itself e))

@@ -178,7 +178,7 @@ module _ (t w x z : TermTable) (tw : Grows t w) (wx : Grows w x) (xz : Grows x z
       counted = λ nil h. a.counted nil (no_clash-Grows t w tw s ready.subst body bin h.1);
     }
 
-  -- the binder has a new name; the body was walked with a memory of its own
+  -- the binder has another name; the body was walked with a memory of its own
   module _ (start inner : List (ℕ × ℕ)) (from : ℕ) (h : IsMemory t s r m0)
       (a : IsWalked w x s ((v, new) ∷ r) start inner from n1 (term_at w.terms body) (suc body) c) where
     body_renamed : nameless numbers (term_at x.terms c) ≡ carried (type_part t s) (named_part t s)

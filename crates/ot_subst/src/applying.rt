@@ -57,16 +57,15 @@ fn substitute<N: Nodes<L>, L>(
         subst: s,
         renamed: &renamed,
     };
-    let mut frees = None;
     results.clear();
-    walk(&work, terms, names, results, &mut frees, t, steps)
+    walk(&work, terms, names, results, t, steps)
 }
 
 /// The term with the substitution put in: its nameless form is the substitution on the nameless form of `t`.
 ///
 /// The numbers of `t` and of the substitution are of this table, each term of the substitution has its variable's type,
-/// and the names of the table are those of `names`. A binder that clashes with the substitution takes a new name; which
-/// one is open. `Nesting` exactly where the result would pass the nesting limit; never `NotRedex`. Where no binder
+/// and the names of the table are those of `names`. A binder that clashes with the substitution takes another name;
+/// which one is open. `Nesting` exactly where the result would pass the nesting limit; never `NotRedex`. Where no binder
 /// clashes, no more steps are taken than the term has distinct subterms. Names and terms that are there keep their
 /// numbers, and there may be more of them, after a refusal too.
 pub fn apply<N: Nodes<L>, L>(

@@ -5,6 +5,7 @@
 mod applying;
 mod clash;
 mod fault;
+mod fresh;
 mod images;
 mod placed;
 mod renamed;

@@ -38,3 +38,11 @@ pub(crate) fn meets(renamed: &Renamed<'_>, v: &VarKey, w: &VarKey) -> bool
         Renamed::Binder(old, new, around) => *v == **old || *w == **new || meets(around, v, w),
     }
 }
+
+/// How many binders were renamed.
+pub(crate) fn depth(renamed: &Renamed<'_>) -> u64 {
+    match renamed {
+        Renamed::Outermost => 0,
+        Renamed::Binder(_, _, around) => depth(around).saturating_add(1),
+    }
+}

@@ -1,6 +1,5 @@
 //! The walk that puts a substitution into a term, node by node.
-ghost use Rattle.std.specs.Prelude.{◌≡◌, ℕ, ◌<◌, ◌≤◌, ◌+◌, ◌++◌, ◌∷◌, [], suc, max, None, Some};
-ghost use Rattle.std.specs.Prelude.{Err, IfOk, OnOk, OnErr, length, slice_get, false, nat_eq};
+ghost use Rattle.std.specs.Prelude.{◌≡◌, ℕ, ◌<◌, ◌≤◌, suc, max, Some, Err, IfOk, OnErr, length, slice_get, false};
 ghost use Rattle.ot_logic.specs.Trees.{Ty, NApp, NAbs};
 ghost use Rattle.ot_logic.specs.Hol.{is_shallow, fun_ty};
 ghost use Rattle.ot_logic.specs.NamedTerms.{nameless, named_type};
@@ -10,10 +9,10 @@ ghost use Rattle.ot_term.specs.TermTable.{term_at, term_of, variable_of, is_with
 ghost use Rattle.ot_term.specs.TermTable.{AreBelow};
 ghost use Rattle.ot_subst.specs.Renamed.{pairs_of};
 ghost use Rattle.ot_subst.specs.Walk.{becomes, IsSetUp, IsLater};
-ghost use Rattle.ot_subst.specs.Clash.{AreKnown};
 ghost use Rattle.ot_subst.specs.Memory.{IsMemory, IsWalked, IsCounted, above};
 
 use crate::clash::{Work, clashes};
+use crate::fresh::new_name;
 use crate::images::{constant_of, image_of};
 use crate::renamed::Renamed;
 use crate::results::Results;
@@ -48,14 +47,12 @@ fn application<N: Nodes<L>, L>(
     terms: &mut N,
     names: &mut Names,
     memory: &mut Results,
-    frees: &mut Option<Vec<VarKey>>,
     f: TermId,
     x: TermId,
     steps: &mut Steps<L>,
 ) -> Result<TermId, TableFault>
     requires set_up { IsSetUp (length names.old) (N.table terms.old) work.now.subst.now (pairs_of work.now.renamed.now) }
     requires remembered { IsMemory (N.table terms.old) work.now.subst.now (pairs_of work.now.renamed.now) memory.old }
-    requires frees { AreKnown (N.table terms.old) work.now.subst.now frees.old }
     requires f { f < length (N.table terms.old).terms }
     requires x { x < length (N.table terms.old).terms }
     requires typed { (ty : Ty ℕ) × (named_type numbers
@@ -72,11 +69,10 @@ fn application<N: Nodes<L>, L>(
     ensures refused { OnErr result (IsCounted (N.table terms.old) work.now.subst.now (pairs_of work.now.renamed.now) memory.old
         steps.old steps.new (NApp (term_at (N.table terms.old).terms f) (term_at (N.table terms.old).terms x))
         (suc (max f x))) }
-    ensures frees { OnOk result (AreKnown (N.table terms.new) work.now.subst.now frees.new) }
     ensures later { IsLater names.old names.new (N.table terms.old) (N.table terms.new) }
 {
-    let f = walk(work, terms, names, memory, frees, f, steps)?;
-    let x = walk(work, terms, names, memory, frees, x, steps)?;
+    let f = walk(work, terms, names, memory, f, steps)?;
+    let x = walk(work, terms, names, memory, x, steps)?;
     join(terms, f, x)
 }
 
@@ -87,14 +83,12 @@ fn abstraction<N: Nodes<L>, L>(
     terms: &mut N,
     names: &mut Names,
     memory: &mut Results,
-    frees: &mut Option<Vec<VarKey>>,
     v: VarKey,
     body: TermId,
     steps: &mut Steps<L>,
 ) -> Result<TermId, TableFault>
     requires set_up { IsSetUp (length names.old) (N.table terms.old) work.now.subst.now (pairs_of work.now.renamed.now) }
     requires remembered { IsMemory (N.table terms.old) work.now.subst.now (pairs_of work.now.renamed.now) memory.old }
-    requires frees { AreKnown (N.table terms.old) work.now.subst.now frees.old }
     requires v { v.ty < length (N.table terms.old).types }
     requires body { body < length (N.table terms.old).terms }
     requires typed { (ty : Ty ℕ) × (named_type numbers
@@ -113,17 +107,16 @@ fn abstraction<N: Nodes<L>, L>(
     ensures refused { OnErr result (IsCounted (N.table terms.old) work.now.subst.now (pairs_of work.now.renamed.now) memory.old
         steps.old steps.new (NAbs (variable_of (N.table terms.old).types v) (term_at (N.table terms.old).terms body))
         (suc body)) }
-    ensures frees { OnOk result (AreKnown (N.table terms.new) work.now.subst.now frees.new) }
     ensures later { IsLater names.old names.new (N.table terms.old) (N.table terms.new) }
 {
     let ty = terms.type_inst(work.subst.types(), v.ty)?;
     let name = v.name;
     let kept = VarKey { name, ty };
-    if !clashes(terms, work, frees, &v, &kept, body)? {
-        let body = walk(work, terms, names, memory, frees, body, steps)?;
+    if !clashes(terms, work, &v, &kept, body)? {
+        let body = walk(work, terms, names, memory, body, steps)?;
         return terms.abs(kept, body);
     }
-    let name = names.add_new()?;
+    let name = new_name(terms, work, names, &v, ty, body)?;
     let new = VarKey { name, ty };
     let renamed = Renamed::Binder(&v, &new, work.renamed);
     let inside = Work {
@@ -132,7 +125,7 @@ fn abstraction<N: Nodes<L>, L>(
         renamed: &renamed,
     };
     let mut results = Results::hashed(work.alloc);
-    let body = walk(&inside, terms, names, &mut results, frees, body, steps)?;
+    let body = walk(&inside, terms, names, &mut results, body, steps)?;
     terms.abs(new, body)
 }
 
@@ -143,13 +136,11 @@ fn image_of_node<N: Nodes<L>, L>(
     terms: &mut N,
     names: &mut Names,
     memory: &mut Results,
-    frees: &mut Option<Vec<VarKey>>,
     node: TermNode,
     steps: &mut Steps<L>,
 ) -> Result<TermId, TableFault>
     requires set_up { IsSetUp (length names.old) (N.table terms.old) work.now.subst.now (pairs_of work.now.renamed.now) }
     requires remembered { IsMemory (N.table terms.old) work.now.subst.now (pairs_of work.now.renamed.now) memory.old }
-    requires frees { AreKnown (N.table terms.old) work.now.subst.now frees.old }
     requires below { AreBelow (length (N.table terms.old).types) (length (N.table terms.old).terms) node }
     requires typed { (ty : Ty ℕ)
         × (named_type numbers (term_of (N.table terms.old).types (N.table terms.old).terms node) ≡ Some ty) }
@@ -164,14 +155,13 @@ fn image_of_node<N: Nodes<L>, L>(
         (nameless numbers (term_of (N.table terms.old).types (N.table terms.old).terms node))) ≡ false }
     ensures refused { OnErr result (IsCounted (N.table terms.old) work.now.subst.now (pairs_of work.now.renamed.now) memory.old
         steps.old steps.new (term_of (N.table terms.old).types (N.table terms.old).terms node) (above node)) }
-    ensures frees { OnOk result (AreKnown (N.table terms.new) work.now.subst.now frees.new) }
     ensures later { IsLater names.old names.new (N.table terms.old) (N.table terms.new) }
 {
     match node {
         TermNode::Var(v) => image_of(terms, work.subst, work.renamed, v),
         TermNode::Const(name, ty) => constant_of(terms, work.subst, work.renamed, name, ty),
-        TermNode::App(f, x) => application(work, terms, names, memory, frees, f, x, steps),
-        TermNode::Abs(v, body) => abstraction(work, terms, names, memory, frees, v, body, steps),
+        TermNode::App(f, x) => application(work, terms, names, memory, f, x, steps),
+        TermNode::Abs(v, body) => abstraction(work, terms, names, memory, v, body, steps),
     }
 }
 
@@ -182,13 +172,11 @@ pub(crate) fn walk<N: Nodes<L>, L>(
     terms: &mut N,
     names: &mut Names,
     memory: &mut Results,
-    frees: &mut Option<Vec<VarKey>>,
     id: TermId,
     steps: &mut Steps<L>,
 ) -> Result<TermId, TableFault>
     requires set_up { IsSetUp (length names.old) (N.table terms.old) work.now.subst.now (pairs_of work.now.renamed.now) }
     requires remembered { IsMemory (N.table terms.old) work.now.subst.now (pairs_of work.now.renamed.now) memory.old }
-    requires frees { AreKnown (N.table terms.old) work.now.subst.now frees.old }
     requires inside { id < length (N.table terms.old).terms }
     ensures ok { IfOk result
         (IsWalked (N.table terms.old) (N.table terms.new) work.now.subst.now (pairs_of work.now.renamed.now)
@@ -198,7 +186,6 @@ pub(crate) fn walk<N: Nodes<L>, L>(
         (nameless numbers (term_at (N.table terms.old).terms id))) ≡ false }
     ensures refused { OnErr result (IsCounted (N.table terms.old) work.now.subst.now (pairs_of work.now.renamed.now) memory.old
         steps.old steps.new (term_at (N.table terms.old).terms id) (suc id)) }
-    ensures frees { OnOk result (AreKnown (N.table terms.new) work.now.subst.now frees.new) }
     ensures later { IsLater names.old names.new (N.table terms.old) (N.table terms.new) }
 {
     // A closed term stays as it is where no type changes.
@@ -209,6 +196,6 @@ pub(crate) fn walk<N: Nodes<L>, L>(
         return Ok(done);
     }
     let node = terms.take(id, steps);
-    let image = image_of_node(work, terms, names, memory, frees, node, steps)?;
+    let image = image_of_node(work, terms, names, memory, node, steps)?;
     Ok(memory.keep(id, image)?)
 }

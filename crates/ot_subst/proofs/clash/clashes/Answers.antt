@@ -1,8 +1,6 @@
 use Rattle.std.proofs.Common.{sym, subst, ap, ◌∙◌, is_some, true≢false}
 use Rattle.ot_subst.specs.Renamed.{Meets, pairs_of}
-use Rattle.ot_subst.proofs.Binders.{clash-put, clash-free, may_stay, alone_untyped, clash_answer}
-use Rattle.ot_subst.proofs.Growing.{AreKnown-Grows}
-use Rattle.ot_subst.proofs.Taken.{on_ok}
+use Rattle.ot_subst.proofs.Binders.{clash-put, may_stay, uncaught-untyped, clash_answer}
 use Rattle.ot_subst.proofs.clash.clashes.Goals as goal
 use Rattle.ot_subst.proofs.clash.clashes.Goals.{then-meets-via-then-meets, then-meets-via-else-meets+then-is_some}
 
@@ -16,36 +14,20 @@ returns-then-meets-clause-ok g c nil = elim c.then-meets.branch [
       (sym (w.is_some.ensures ∙ ap is_some w.get.ensures) ∙ w.if-is_some.true)
 ]
 
-pub returns-then-branch-clause-ok : goal.returns-then-branch-clause-ok
-returns-then-branch-clause-ok g c nil =
-    clash-free (g.N.Nodes.table c.args.terms.now) c.args.work.now.subst.now (pairs_of c.args.work.now.renamed.now)
-    c.args.v.now c.args.w.now c.args.body c.requires.ready c.requires.binder c.requires.new c.requires.instance
-    (c.in_ok-is_put_in.ensures.tells.0 c.if-branch.true)
-
-pub returns-then-is_empty-clause-ok : goal.returns-then-is_empty-clause-ok
-returns-then-is_empty-clause-ok g c =
+pub returns-then-not-branch-clause-ok : goal.returns-then-not-branch-clause-ok
+returns-then-not-branch-clause-ok g c =
     may_stay (g.N.Nodes.table c.args.terms.now) c.args.work.now.subst.now (pairs_of c.args.work.now.renamed.now)
     c.args.v.now c.args.w.now c.args.body c.requires.ready c.requires.binder c.requires.new c.requires.instance
     (λ m. true≢false (sym (c.meets.ensures.1 m) ∙ c.if-meets.false))
     (sym (c.is_some.ensures ∙ ap is_some c.get.ensures) ∙ c.if-is_some.false)
-    (λ m. true≢false (sym (c.in_ok-is_put_in.ensures.tells.1 m) ∙ c.if-branch.false))
-    (alone_untyped (g.N.Nodes.table c.args.terms.now) c.args.work.now.subst.now (pairs_of c.args.work.now.renamed.now)
-    c.args.v.now c.args.w.now c.args.body c.requires.ready c.requires.binder c.requires.new c.requires.instance
-    (sym c.types.ensures ∙ c.is_empty.ensures.0 c.if-is_empty.true))
+    (uncaught-untyped (g.N.Nodes.table c.args.terms.now) c.args.work.now.subst.now
+    (pairs_of c.args.work.now.renamed.now) c.args.v.now c.args.w.now c.args.body c.requires.ready c.requires.binder c.requires.new c.requires.instance
+    (sym c.types.ensures ∙ c.is_empty.ensures.0 c.if-is_empty.true)
+    (c.in_ok-may_be_put_in.ensures c.if-not-branch.true))
 
 pub returns-clause-ok : goal.returns-clause-ok
 returns-clause-ok g c =
     clash_answer (g.N.Nodes.table c.args.terms.now) c.args.work.now.subst.now (pairs_of c.args.work.now.renamed.now)
     c.args.v.now c.args.w.now c.args.body c.requires.ready c.requires.binder c.requires.new c.requires.instance
-    c.in_ok-xs.xs.items c.in_ok-xs.ensures.within c.in_ok-xs.ensures.free c.any_coincides.result
     (λ m. true≢false (sym (c.meets.ensures.1 m) ∙ c.if-meets.false))
-    (sym (c.is_some.ensures ∙ ap is_some c.get.ensures) ∙ c.if-is_some.false)
-    (λ m. true≢false (sym (c.in_ok-is_put_in.ensures.tells.1 m) ∙ c.if-branch.false))
-    (rw c.deref.ensures.value at c.any_coincides.ensures.ok)
-
-pub returns-clause-frees : goal.returns-clause-frees
-returns-clause-frees g c =
-    on_ok c.any_coincides.result _
-    (AreKnown-Grows (g.N.Nodes.table c.args.terms.now) (g.N.Nodes.table c.any_coincides.new.terms)
-    c.any_coincides.ensures.grown.grows c.args.work.now.subst.now c.requires.ready.subst c.is_put_in.new.frees
-    c.in_ok-is_put_in.ensures.frees)
+    (sym (c.is_some.ensures ∙ ap is_some c.get.ensures) ∙ c.if-is_some.false) c.catches.result c.catches.ensures.ok

@@ -7,24 +7,23 @@ use Rattle.ot_logic.specs.NamedTerms.{nameless}
 use Rattle.ot_logic.specs.Naming.{numbers}
 use Rattle.ot_logic.proofs.Results.{same_Err}
 use Rattle.ot_term.specs.Term.{TermTable}
-use Rattle.ot_term.specs.TermTable.{term_at, term_of, Grows}
+use Rattle.ot_term.specs.TermTable.{term_at, term_of, Grows, IsGrownTo}
 use Rattle.ot_term.specs.declared.term.TermNode.{TermNode}
-use Rattle.ot_term.proofs.Growing.{Grows-trans}
+use Rattle.ot_term.proofs.Growing.{Grows-trans, grown_further}
 use Rattle.ot_subst.specs.Renamed.{pairs_of}
 use Rattle.ot_subst.specs.Walk.{becomes, HasForm, IsLater}
 use Rattle.ot_subst.specs.Memory.{above, keys, IsWalked, IsCounted}
 use Rattle.ot_subst.proofs.Abstraction.{IsInstantiated, ready-then, instance-in, instance-then, none-counted}
 use Rattle.ot_subst.proofs.Abstraction.{set_up-then, memory-then, body-then, type-then, deep-type, deep-kept}
 use Rattle.ot_subst.proofs.Abstraction.{form-kept, whole-kept, form-renamed, whole-renamed, set_up-new}
-use Rattle.ot_subst.proofs.Abstraction.{deep-new, IsMemory-nil}
-use Rattle.ot_subst.proofs.Growing.{AreKnown-Grows, known-later}
+use Rattle.ot_subst.proofs.Abstraction.{deep-new, CapturesNone, apart-before, IsMemory-nil}
 use Rattle.ot_subst.proofs.Growing.{IsSetUp-Grows, becomes_at-Grows, IsLater-table, IsLater-trans}
 use Rattle.ot_subst.proofs.Shallow.{deep-right}
 use Rattle.ot_subst.proofs.Unchanged.{walked-unchanged}
 use Rattle.ot_subst.proofs.Walked.{ArePartsWalked, walked_left, walked_right, walked-app}
 use Rattle.ot_subst.proofs.Walked.{walked-leaf, walked-recalled, still_absent, walked-whole}
 use Rattle.ot_subst.proofs.Taken.{if_ok, above-below, more-below, node-tree, node-bound, parts-typed}
-use Rattle.ot_subst.proofs.Taken.{recalled, absent-member, absent-lookup, later-name, on_ok, on_err}
+use Rattle.ot_subst.proofs.Taken.{recalled, absent-member, absent-lookup, on_err}
 use Rattle.ot_subst.proofs.Counting.{counts-walked, counts-left, counts-right, counts-body, counts-whole}
 use Rattle.ot_subst.proofs.walk.+walk.Given as given
 use Rattle.ot_subst.proofs.walk.+walk.Goals as goal
@@ -46,18 +45,27 @@ instantiated g t c = record {
   instance = rw c.types.ensures at c.in_ok-ty.ensures.ok;
 }
 
--- its binder has a new name
+-- its binder has another name
 named : (g : given.Over) (t : ℕ) (c : abstraction-In_ok-name g t)
-    → IsLater c.args.names.now c.add_new.new.self (g.N.Nodes.table c.args.terms.now)
-    (g.N.Nodes.table c.clashes.new.terms)
+    → IsLater c.args.names.now c.new_name.new.names (g.N.Nodes.table c.args.terms.now)
+    (g.N.Nodes.table c.new_name.new.terms)
 named g t c =
-    let low = c.requires.set_up.names in
     let typed = c.in_ok-ty.ensures.grown in
-    let tested = c.in_ok-clashes.ensures.grown in
-    let once = IsLater-table 0 c.args.names.now _ _ low typed (omega arith) in
-    let twice = IsLater-table 0 c.args.names.now _ _ once.names tested (omega arith) in
-    IsLater-trans _ _ _ _ _ _ (IsLater-trans _ _ _ _ _ _ once twice)
-    (later-name _ _ _ c.in_ok-name.ensures.extends c.in_ok-name.ensures.table tested.table twice.names)
+    let once = IsLater-table 0 c.args.names.now _ _ c.requires.set_up.names typed (omega arith) in
+    let twice = IsLater-table 0 c.args.names.now _ _ once.names c.in_ok-clashes.ensures.grown (omega arith) in
+    IsLater-trans _ _ _ _ _ _ (IsLater-trans _ _ _ _ _ _ once twice) c.in_ok-name.ensures.later
+
+-- the table has grown
+grown : (g : given.Over) (t : ℕ) (c : abstraction-In_ok-name g t)
+    → IsGrownTo 0 (g.N.Nodes.table c.type_inst.new.self) (g.N.Nodes.table c.new_name.new.terms)
+grown g t c = grown_further 0 0 0 _ _ _ c.in_ok-clashes.ensures.grown (omega arith) c.in_ok-name.ensures.grown
+    (omega arith)
+
+-- under it, the binder captures nothing
+apart : (g : given.Over) (t : ℕ) (c : abstraction-In_ok-name g t)
+    → CapturesNone (instantiated g t (goal.at.abstraction-In_ok-name g t c).In_ok-ty) c.in_ok-name.name
+apart g t c = apart-before (instantiated g t (goal.at.abstraction-In_ok-name g t c).In_ok-ty)
+    c.in_ok-clashes.ensures.grown c.in_ok-name.name c.in_ok-name.ensures.apart
 
 pub abstraction-returns-in_err-ty-clause-nesting : goal.abstraction-returns-in_err-ty-clause-nesting
 abstraction-returns-in_err-ty-clause-nesting g t c p =
@@ -84,7 +92,7 @@ abstraction-walk-requires g t c κs h =
     let set_up = set_up-then had tested.grown in
     let memory = memory-then had tested.grown c.requires.remembered in
     let body = body-then had tested.grown in
-    (omega (arith, c.decreases), (h.0, (h.1, (set_up, (memory, (tested.frees, body))))))
+    (omega (arith, c.decreases), (h.0, (h.1, (set_up, (memory, body)))))
 
 pub abstraction-returns-in_err-body-clause-nesting : goal.abstraction-returns-in_err-body-clause-nesting
 abstraction-returns-in_err-body-clause-nesting g t c p =
@@ -112,22 +120,31 @@ abstraction-returns-then-not-branch-clause-nesting g t c p =
     (form-kept had c.in_ok-clashes.ensures.grown c.in_ok-body.ensures.later c.in_ok-body.ensures.ok
     (rw c.if-not-branch.true at c.in_ok-clashes.ensures.ok))) ∙ c.abs.ensures.nesting p
 
+pub abstraction-new_name-requires-clause-set_up : goal.abstraction-new_name-requires-clause-set_up
+abstraction-new_name-requires-clause-set_up g t c =
+    set_up-then (instantiated g t (goal.at.abstraction-new_name-requires-clause-set_up g t c).In_ok-ty)
+    c.in_ok-clashes.ensures.grown
+
+pub abstraction-new_name-requires-clause-new : goal.abstraction-new_name-requires-clause-new
+abstraction-new_name-requires-clause-new g t c =
+    type-then (instantiated g t (goal.at.abstraction-new_name-requires-clause-new g t c).In_ok-ty)
+    c.in_ok-clashes.ensures.grown
+
 pub abstraction-walk-requires-2 : goal.abstraction-walk-requires-2
 abstraction-walk-requires-2 g t c κs h =
     let had = instantiated g t (goal.at.abstraction-walk-requires-2 g t c).In_ok-ty in
-    let tested = c.in_ok-clashes.ensures in
-    let set_up = set_up-new had tested.grown c.in_ok-name.name c.in_ok-name.ensures.ok.0
-    (omega (arith, c.requires.bound)) (length c.add_new.new.self) c.in_ok-name.ensures.extends.longer
-    c.in_ok-name.ensures.ok.1 in
+    let new = (goal.at.abstraction-walk-requires-2 g t c).In_ok-name in
+    let set_up = set_up-new had (grown g t new) c.in_ok-name.name (apart g t new) (length c.new_name.new.names)
+    c.in_ok-name.ensures.later.extends.longer c.in_ok-name.ensures.within in
     let memory = c.hashed-results.ensures in
-    let body = body-then had tested.grown in
-    (omega (arith, c.decreases), (h.0, (h.1, (set_up, (IsMemory-nil memory, (tested.frees, body))))))
+    let body = body-then had (grown g t new) in
+    (omega (arith, c.decreases), (h.0, (h.1, (set_up, (IsMemory-nil memory, body)))))
 
 pub abstraction-returns-in_err-body-2-clause-nesting : goal.abstraction-returns-in_err-body-2-clause-nesting
 abstraction-returns-in_err-body-2-clause-nesting g t c p =
     let had = instantiated g t (goal.at.abstraction-returns-in_err-body-2-clause-nesting g t c).In_ok-ty in
-    deep-new had c.in_ok-clashes.ensures.grown c.in_ok-name.name c.in_ok-name.ensures.ok.0
-    (omega (arith, c.requires.bound)) (c.in_err-body-2.ensures.nesting
+    let new = (goal.at.abstraction-returns-in_err-body-2-clause-nesting g t c).In_ok-name in
+    deep-new had (grown g t new) c.in_ok-name.name (apart g t new) (c.in_err-body-2.ensures.nesting
     (ap Err (same_Err c.from_residual-in_err-body-2.result _ _ c.from_residual-in_err-body-2.ensures.1 p)))
 
 pub abstraction-returns-in_err-body-2-clause-later : goal.abstraction-returns-in_err-body-2-clause-later
@@ -138,22 +155,25 @@ abstraction-returns-in_err-body-2-clause-later g t c =
 pub abstraction-abs-requires-2-clause-ty : goal.abstraction-abs-requires-2-clause-ty
 abstraction-abs-requires-2-clause-ty g t c =
     let had = instantiated g t (goal.at.abstraction-abs-requires-2-clause-ty g t c).In_ok-ty in
-    omega (arith, type-then had c.in_ok-clashes.ensures.grown, c.in_ok-body-2.ensures.later.grows.types.longer)
+    let new = (goal.at.abstraction-abs-requires-2-clause-ty g t c).In_ok-name in
+    omega (arith, type-then had (grown g t new), c.in_ok-body-2.ensures.later.grows.types.longer)
 
 pub abstraction-returns-clause-ok : goal.abstraction-returns-clause-ok
 abstraction-returns-clause-ok g t c =
     let had = instantiated g t (goal.at.abstraction-returns-clause-ok g t c).In_ok-ty in
+    let new = (goal.at.abstraction-returns-clause-ok g t c).In_ok-name in
     if_ok c.abs-2.result _ _
-    (whole-renamed had c.in_ok-clashes.ensures.grown c.in_ok-name.name c.in_ok-name.ensures.ok.0
-    (omega (arith, c.requires.bound)) c.in_ok-body-2.ensures.later c.requires.remembered c.in_ok-body-2.ensures.ok
+    (whole-renamed had (grown g t new) c.in_ok-name.name (apart g t new)
+    c.in_ok-body-2.ensures.later c.requires.remembered c.in_ok-body-2.ensures.ok
     (rw c.if-not-branch.false at c.in_ok-clashes.ensures.ok) c.abs-2.ensures.grown.grows) c.abs-2.ensures.ok
 
 pub abstraction-returns-clause-nesting : goal.abstraction-returns-clause-nesting
 abstraction-returns-clause-nesting g t c p =
     let had = instantiated g t (goal.at.abstraction-returns-clause-nesting g t c).In_ok-ty in
+    let new = (goal.at.abstraction-returns-clause-nesting g t c).In_ok-name in
     sym (ap (is_shallow numbers)
-    (form-renamed had c.in_ok-clashes.ensures.grown c.in_ok-name.name c.in_ok-name.ensures.ok.0
-    (omega (arith, c.requires.bound)) c.in_ok-body-2.ensures.later c.requires.remembered c.in_ok-body-2.ensures.ok))
+    (form-renamed had (grown g t new) c.in_ok-name.name (apart g t new)
+    c.in_ok-body-2.ensures.later c.requires.remembered c.in_ok-body-2.ensures.ok))
     ∙ c.abs-2.ensures.nesting p
 
 pub abstraction-returns-clause-later : goal.abstraction-returns-clause-later
@@ -162,7 +182,7 @@ abstraction-returns-clause-later g t c =
     IsLater-trans _ _ _ _ _ _ (IsLater-trans _ _ _ _ _ _ name c.in_ok-body-2.ensures.later)
     (IsLater-table (max (c.in_ok-name.name + 1) 1) c.walk-2.new.names _ _ c.in_ok-body-2.ensures.later.names
     c.abs-2.ensures.grown
-    (omega (arith, c.in_ok-name.ensures.ok.1, c.in_ok-body-2.ensures.later.extends.longer)))
+    (omega (arith, c.in_ok-name.ensures.within, c.in_ok-body-2.ensures.later.extends.longer)))
 
 pub abstraction-returns-in_err-body-clause-refused : goal.abstraction-returns-in_err-body-clause-refused
 abstraction-returns-in_err-body-clause-refused g t c =
@@ -187,25 +207,6 @@ abstraction-returns-clause-refused g t c =
     on_err c.abs-2.result _
     (none-counted (instantiated g t (goal.at.abstraction-returns-clause-refused g t c).In_ok-ty)
     (rw c.if-not-branch.false at c.in_ok-clashes.ensures.ok))
-
-pub abstraction-clashes-requires-clause-frees : goal.abstraction-clashes-requires-clause-frees
-abstraction-clashes-requires-clause-frees g t c =
-    AreKnown-Grows _ _ c.in_ok-ty.ensures.grown.grows _ c.requires.set_up.ready.subst c.args.frees.now
-    c.requires.frees
-
-pub abstraction-returns-then-not-branch-clause-frees : goal.abstraction-returns-then-not-branch-clause-frees
-abstraction-returns-then-not-branch-clause-frees g t c =
-    on_ok c.abs.result _
-    (known-later (Grows-trans (Grows-trans c.in_ok-ty.ensures.grown.grows c.in_ok-clashes.ensures.grown.grows)
-    c.in_ok-body.ensures.later.grows) c.abs.ensures.grown.grows c.requires.set_up.ready
-    c.in_ok-body.ensures.later.table c.walk.new.frees c.in_ok-body.ensures.frees)
-
-pub abstraction-returns-clause-frees : goal.abstraction-returns-clause-frees
-abstraction-returns-clause-frees g t c =
-    on_ok c.abs-2.result _
-    (known-later (Grows-trans (Grows-trans c.in_ok-ty.ensures.grown.grows c.in_ok-clashes.ensures.grown.grows)
-    c.in_ok-body-2.ensures.later.grows) c.abs-2.ensures.grown.grows c.requires.set_up.ready
-    c.in_ok-body-2.ensures.later.table c.walk-2.new.frees c.in_ok-body-2.ensures.frees)
 
 -- ---- an application
 -- its parts were walked
@@ -267,7 +268,7 @@ application-walk-requires-2 g t c κs h =
     (length c.walk.new.names) _ c.requires.set_up f.later.extends.longer f.later.table f.later.names in
     let x : c.args.x < length (g.N.Nodes.table c.walk.new.terms).terms =
     omega (arith, c.requires.x, f.later.grows.terms.longer) in
-    (omega (arith, c.decreases), (h.0, (h.1, (set_up, (f.ok.memory, (f.frees, x))))))
+    (omega (arith, c.decreases), (h.0, (h.1, (set_up, (f.ok.memory, x)))))
 
 pub application-returns-in_err-f-clause-refused : goal.application-returns-in_err-f-clause-refused
 application-returns-in_err-f-clause-refused g t c =
@@ -283,13 +284,6 @@ pub application-returns-clause-refused : goal.application-returns-clause-refused
 application-returns-clause-refused g t c =
     on_err c.join.result _ (counts-right c.in_ok-f.ensures.later.grows c.requires.set_up.ready c.requires.x
     c.in_ok-f.ensures.ok (counts-walked c.in_ok-x.ensures.ok))
-
-pub application-returns-clause-frees : goal.application-returns-clause-frees
-application-returns-clause-frees g t c =
-    on_ok c.join.result _
-    (known-later (Grows-trans c.in_ok-f.ensures.later.grows c.in_ok-x.ensures.later.grows)
-    c.join.ensures.grown.grows c.requires.set_up.ready c.in_ok-x.ensures.later.table c.walk-2.new.frees
-    c.in_ok-x.ensures.frees)
 
 -- ---- a node
 -- what the term of a node becomes
@@ -331,18 +325,6 @@ image_of_node-returns-in-Const-clause-nesting g t c p =
     let s = (goal.at.image_of_node-returns-in-Const-clause-nesting g t c).Start in
     subst (λ n. is_shallow numbers (image_tree g t s n) ≡ false) (sym c.in-Const.is)
     (c.constant_of.ensures.nesting p)
-
-pub image_of_node-returns-in-Var-clause-frees : goal.image_of_node-returns-in-Var-clause-frees
-image_of_node-returns-in-Var-clause-frees g t c =
-    on_ok c.image_of.result _
-    (AreKnown-Grows _ _ c.image_of.ensures.grown.grows _ c.requires.set_up.ready.subst c.args.frees.now
-    c.requires.frees)
-
-pub image_of_node-returns-in-Const-clause-frees : goal.image_of_node-returns-in-Const-clause-frees
-image_of_node-returns-in-Const-clause-frees g t c =
-    on_ok c.constant_of.result _
-    (AreKnown-Grows _ _ c.constant_of.ensures.grown.grows _ c.requires.set_up.ready.subst c.args.frees.now
-    c.requires.frees)
 
 -- ---- a term
 -- the tree of the node that was taken
@@ -422,7 +404,7 @@ walk-image_of_node-requires g t c κs h =
     let bound = node-bound now c.args.id c.take-node.result c.take-node.ensures.tree (length c.args.names.now)
     r.inside r.set_up.names in (
       omega (arith, c.decreases, below g t taken),
-      (h.0, (h.1, (r.set_up, (r.remembered, (r.frees, (within, (typed, bound))))))),
+      (h.0, (h.1, (r.set_up, (r.remembered, (within, (typed, bound)))))),
     )
 
 pub walk-returns-in_err-image-clause-refused : goal.walk-returns-in_err-image-clause-refused
