@@ -20,7 +20,7 @@ impl Model for ShapeId {
 }
 
 /// The number of an alpha class: those of its shape and of the list of its free variables.
-#[derive(Clone, Copy, PartialEq, Eq, Hash)]
+#[derive(Clone, Copy, PartialEq, Eq, PartialOrd, Ord, Hash)]
 pub struct ClassId(u64);
 
 impl Model for ClassId {

@@ -1,5 +1,6 @@
 -- The real state of a kernel, as its tables and its theorems grow, and what its calls answer.
 pub mod Namings
+pub mod Keying
 pub mod Placing
 pub mod Accepted
 pub mod Growth
@@ -26,6 +27,8 @@ pub mod Derived
 pub mod Supposed
 pub mod FirstPlaces
 pub mod Placed
+pub mod Chaining
+pub mod Seeking
 pub mod Adding
 pub mod Conditions
 pub mod Accepting

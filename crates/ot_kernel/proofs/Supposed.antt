@@ -1,6 +1,6 @@
 -- A sequent that becomes an assumption.
 use Rattle.std.specs.Prelude.{◌≡◌, ℕ, ◌<◌, Bool, true, false, cond, if◌then◌else◌, is_ok}
-use Rattle.std.specs.Prelude.{is_err, find, List, [], ◌∷◌, ◌++◌, map, length, slice_get}
+use Rattle.std.specs.Prelude.{is_err, find, List, [], ◌∷◌, ◌++◌, map, length}
 use Rattle.std.specs.Prelude.{slice_index_or, Option, Some, None, Result, Ok, Err, IfOk, IfErr}
 use Rattle.std.specs.List.{All, AllByRecursion, list_all}
 use Rattle.std.proofs.Common.{◌+◌, zero, suc, get_or, drop, refl, sym, ap}
@@ -35,6 +35,8 @@ use Rattle.ot_kernel.specs.declared.fault.RuleFault.TheVariants.{Memory}
 use Rattle.ot_kernel.specs.declared.fault.RuleFault.TheVariants as rules
 use Rattle.ot_kernel.specs.State.{State, type_at, term_at, terms_at, Keeps, SameTheorems, IsSoundState}
 use Rattle.ot_kernel.specs.Definitions.{IsSignature}
+use Rattle.ot_kernel.specs.declared.key.SequentKey.{SequentKey}
+use Rattle.ot_kernel.specs.Keys.{IsKeyOf}
 use Rattle.ot_kernel.specs.Places.{IsPlaced}
 use Rattle.ot_kernel.specs.Spelled.{Held, sequent_of, sequents_at, undefined_state, state_of, IsInside, IsKernel}
 use Rattle.ot_kernel.specs.Numbered.{tms_at}
@@ -83,9 +85,10 @@ none-passes {X} p (x ∷ xs) h k d l = by (p x) refl (none-passes p xs) k l
     by false e rest zero m = e
     by false e rest (suc j) m = rest (found false e) j d (omega (arith, m))
 
--- the class of its conclusion has a place by then
-assumed_from : (ns : List Name) (t : TermTable) (held : Held) (th : Theorem) (ps : List (ℕ × ℕ)) (c place : ℕ)
-    → slice_get t.classes th.concl ≡ Some c → place ≡ length held.assumptions → IsPlaced c place held.places ps
+-- its key has a place by then
+assumed_from : (ns : List Name) (t : TermTable) (held : Held) (th : Theorem) (ps : List (SequentKey × ℕ))
+    (l : SequentKey) (place : ℕ) → IsKeyOf t.classes th.hyps th.concl l → place ≡ length held.assumptions
+    → IsPlaced l place held.places ps
     → IsKernel ns t held → IsProposed (state_of ns t held) th → IsNew (state_of ns t held) th
     → Assumed (state_of ns t held) ns t
     (record held {
@@ -94,7 +97,7 @@ assumed_from : (ns : List Name) (t : TermTable) (held : Held) (th : Theorem) (ps
           ∷ [];
       places = ps;
     }) th
-assumed_from ns t held th ps c place class here noted k p new = record { kernel = kernel; state = state }
+assumed_from ns t held th ps l place keyed here noted k p new = record { kernel = kernel; state = state }
   where
     f : Theorem → Sequent Name
     f = sequent_of (state_of ns t held).terms
@@ -172,21 +175,21 @@ assumed_from ns t held th ps c place class here noted k p new = record { kernel 
       accepted = held_stay (state_of ns t held) (state_of ns t more) (Extends-refl _) (Extends-refl _) longer
           held.definitions k.accepted;
       signature = subst (λ el. IsSignature ns el held.signature) (sym defined) k.signature;
-      placed = places-more t.classes held.theorems held.assumptions ps th c class k.numbered
-          (places-noted t.classes held.theorems held.assumptions held.places ps c place here k.placed noted)
+      placed = places-more t.classes held.theorems held.assumptions ps th l keyed k.numbered
+          (places-noted t.classes held.theorems held.assumptions held.places ps l place here k.placed noted)
           noted.found;
       sound = subst IsSoundState (sym state) sound;
     }
 
 -- the same from the state that contracts see
 pub assumed : (ns : List Name) (t : TermTable) (held : Held) (now : State) (th : Theorem) (ths : List Theorem)
-    (taken : List ℕ) (n : ℕ) (qs : List (ℕ × ℕ)) (c place : ℕ) → slice_get t.classes th.concl ≡ Some c
-    → place ≡ length held.assumptions → IsPlaced c place held.places qs
+    (taken : List ℕ) (n : ℕ) (qs : List (SequentKey × ℕ)) (l : SequentKey) (place : ℕ)
+    → IsKeyOf t.classes th.hyps th.concl l → place ≡ length held.assumptions → IsPlaced l place held.places qs
     → state_of ns t held ≡ now → IsKernel ns t held → ths ≡ held.theorems ++ th ∷ [] → n ≡ length held.theorems
     → taken ≡ held.assumptions ++ n ∷ []
     → IsProposed now th → IsNew now th
     → Assumed now ns t (record held { theorems = ths; assumptions = taken; places = qs }) th
-assumed ns t held now th ths taken n qs c place class here noted view k e len d p new =
+assumed ns t held now th ths taken n qs l place keyed here noted view k e len d p new =
     let after : taken ≡ held.assumptions ++ length held.theorems ∷ [] =
     d ∙ ap (λ m. held.assumptions ++ m ∷ []) len in
     let start =
@@ -197,16 +200,16 @@ assumed ns t held now th ths taken n qs c place class here noted view k e len d 
       assumptions = held.assumptions ++ length held.theorems
           ∷ [];
       places = qs;
-    }) th) view (assumed_from ns t held th qs c place class here noted k) p new in
+    }) th) view (assumed_from ns t held th qs l place keyed here noted k) p new in
     subst (λ (z : List Theorem × List ℕ). Assumed now ns t
     (record held { theorems = z.0; assumptions = z.1; places = qs }) th) (λ i. (sym e i, sym after i)) start
 
 -- a place that comes changes nothing else
-pub noted : (ns : List Name) (t : TermTable) (held : Held) (ths : List Theorem) (qs : List (ℕ × ℕ)) (c place : ℕ)
-    → place ≡ length held.assumptions → IsPlaced c place held.places qs → ths ≡ held.theorems → IsKernel ns t held
-    → IsKernel ns t (record held { theorems = ths; places = qs })
-noted ns t held ths qs c place here new same k =
-    subst (λ l. IsKernel ns t (record held { theorems = l; places = qs })) (sym same) (record {
+pub noted : (ns : List Name) (t : TermTable) (held : Held) (ths : List Theorem) (qs : List (SequentKey × ℕ))
+    (l : SequentKey) (place : ℕ) → place ≡ length held.assumptions → IsPlaced l place held.places qs
+    → ths ≡ held.theorems → IsKernel ns t held → IsKernel ns t (record held { theorems = ths; places = qs })
+noted ns t held ths qs l place here new same k =
+    subst (λ ts. IsKernel ns t (record held { theorems = ts; places = qs })) (sym same) (record {
       names = k.names;
       types = k.types;
       terms = k.terms;
@@ -215,7 +218,7 @@ noted ns t held ths qs c place here new same k =
       numbered = k.numbered;
       accepted = k.accepted;
       signature = k.signature;
-      placed = places-noted t.classes held.theorems held.assumptions held.places qs c place here k.placed new;
+      placed = places-noted t.classes held.theorems held.assumptions held.places qs l place here k.placed new;
       sound = k.sound;
     })
 

@@ -8,7 +8,7 @@ use Rattle.std.proofs.lemmas.List.Elements.{All-head, All-tail, All-push}
 use Rattle.ot_logic.specs.Names.{Name}
 use Rattle.ot_logic.specs.Faults.{Fault}
 use Rattle.ot_logic.specs.Trees.{Bound, Sequent}
-use Rattle.ot_logic.specs.Hol.{same_tm, same_sequent}
+use Rattle.ot_logic.specs.Hol.{same_sequent}
 use Rattle.ot_logic.specs.NamedTerms.{nameless}
 use Rattle.ot_logic.specs.Naming.{names, numbers, name_of}
 use Rattle.ot_logic.specs.Renamed.{map_tm, map_named, map_sequent}
@@ -23,7 +23,7 @@ use Rattle.ot_laws.specs.Theorem.{IsTheorem}
 use Rattle.ot_kernel.specs.declared.theorem.Theorem.{Theorem}
 use Rattle.ot_kernel.specs.declared.fault.RuleFault.{RuleFault}
 use Rattle.ot_kernel.specs.declared.fault.RuleFault.TheVariants.{Memory}
-use Rattle.ot_kernel.specs.State.{State, term_at, terms_at, theorem_at, Keeps, SameBasis, SameTheorems, IsSoundState}
+use Rattle.ot_kernel.specs.State.{State, term_at, terms_at, sequent_at, theorem_at, Keeps, SameBasis, SameTheorems, IsSoundState}
 use Rattle.ot_kernel.specs.Definitions.{IsSignature}
 use Rattle.ot_kernel.specs.Spelled.{Held, sequent_of, sequents_at, undefined_state, state_of, IsInside, IsKernel}
 use Rattle.ot_kernel.proofs.Placing.{places-grown}
@@ -93,18 +93,20 @@ module _ (ns : List Name) (t : TermTable) (held : Held) (now : State) (view : st
       (record { hyps = tms_at t.terms hyps; concl = tm_at t.terms concl }) q
       ∙ (λ j. same_sequent names (left j) (right j))
 
-  -- two terms that are compared
-  pub same_tm-real : (a b : ℕ) → a < length now.terms → b < length now.terms
-      → same_tm numbers (tm_at t.terms a) (tm_at t.terms b) ≡ same_tm names (term_at now a) (term_at now b)
-  same_tm-real a b g l =
-      let v = same_tm numbers (tm_at t.terms a) (tm_at t.terms b) in
-      let q : Sequent ℕ = record { hyps = []; concl = tm_at t.terms a } in
-      let r : Sequent ℕ = record { hyps = []; concl = tm_at t.terms b } in
-      let left = real_sequent [] a (λ j x m. absurd (omega (arith, m))) g in
-      let right = real_sequent [] b (λ j x m. absurd (omega (arith, m))) l in
+  -- two sequents that are compared
+  pub same_sequent-real : (gs hs : List ℕ) (a b : ℕ) → All (λ i. i < length now.terms) gs
+      → All (λ i. i < length now.terms) hs → a < length now.terms → b < length now.terms
+      → same_sequent numbers (record { hyps = tms_at t.terms gs; concl = tm_at t.terms a })
+      (record { hyps = tms_at t.terms hs; concl = tm_at t.terms b })
+      ≡ same_sequent names (sequent_at now gs a) (sequent_at now hs b)
+  same_sequent-real gs hs a b within inside left_concl right_concl =
+      let q : Sequent ℕ = record { hyps = tms_at t.terms gs; concl = tm_at t.terms a } in
+      let r : Sequent ℕ = record { hyps = tms_at t.terms hs; concl = tm_at t.terms b } in
+      let left = real_sequent gs a within left_concl in
+      let right = real_sequent hs b inside right_concl in
       carry-sequents (naming ns) numbers names (lettering ns (table_names ns k.names))
-      (λ L c y z. v ≡ same_tm c y.concl z.concl) q r refl
-      ∙ (λ j. same_tm names (left j).concl (right j).concl)
+      (λ L c y z. same_sequent numbers q r ≡ same_sequent c y z) q r refl
+      ∙ (λ j. same_sequent names (left j) (right j))
 
 -- ---- one theorem more
 pub sequents_at-push : (qs : List (Sequent Name)) (q : Sequent Name) (is : List ℕ) → All (λ i. i < length qs) is

@@ -1,30 +1,35 @@
--- Terms of a list found by their alpha classes.
-use Rattle.std.specs.Prelude.{◌≡◌, ℕ, ◌<◌, ◌≤◌, nat_eq, false, List, length, take, slice_get, Option, Some, None}
+-- Theorems of a list found by their sequents.
+use Rattle.std.specs.Prelude.{◌≡◌, ℕ, ◌<◌, ◌≤◌, false, List, length, take, slice_get, Option, Some, None}
 use Rattle.std.specs.List.{All}
 use Rattle.std.specs.Map.{lookup}
 use Rattle.ot_logic.specs.Names.{Name}
-use Rattle.ot_logic.specs.Trees.{Tm}
-use Rattle.ot_logic.specs.Hol.{same_tm}
+use Rattle.ot_logic.specs.Trees.{Sequent}
+use Rattle.ot_logic.specs.Hol.{same_sequent}
 use Rattle.ot_logic.specs.Naming.{names}
-use Rattle.ot_kernel.specs.State.{State, term_at}
+use Rattle.ot_kernel.specs.declared.key.SequentKey.{SequentKey}
+use Rattle.ot_kernel.specs.Keys.{IsKeyOf, same_key}
+use Rattle.ot_kernel.specs.State.{State, sequent_at}
 
--- the class of p has a place that is no later than j
-pub record HasPlace (s : State) (places : List (ℕ × ℕ)) (j : ℕ) (p : Tm Name) : Type 0 where
-  pub term : ℕ
-  pub within : term < length s.terms
-  pub class : ℕ
-  pub classed : slice_get s.classes term ≡ Some class
-  pub is : term_at s term ≡ p
+-- the key of q has a place that is no later than j
+pub record HasPlace (s : State) (places : List (SequentKey × ℕ)) (j : ℕ) (q : Sequent Name) : Type 0 where
+  pub hyps : List ℕ
+  pub concl : ℕ
+  pub hyps_within : All (λ i. i < length s.terms) hyps
+  pub within : concl < length s.terms
+  pub classed : All (λ i. i < length s.classes) hyps
+  pub is : sequent_at s hyps concl ≡ q
+  pub key : SequentKey
+  pub keyed : IsKeyOf s.classes hyps concl key
   pub place : ℕ
-  pub found : lookup (nat_eq class) places ≡ Some place
+  pub found : lookup (same_key key) places ≡ Some place
   pub first : place ≤ j
 
--- the class of each of these terms has a place, which is no later than the term
-pub record AreFirstPlaces (s : State) (ps : List (Tm Name)) (places : List (ℕ × ℕ)) : Type 0 where
-  pub found : (j : ℕ) (p : Tm Name) → slice_get ps j ≡ Some p → HasPlace s places j p
-  pub within : (c place : ℕ) → lookup (nat_eq c) places ≡ Some place → place ≤ length ps
+-- the key of each of these sequents has a place, which is no later than the sequent
+pub record AreFirstPlaces (s : State) (qs : List (Sequent Name)) (places : List (SequentKey × ℕ)) : Type 0 where
+  pub found : (j : ℕ) (q : Sequent Name) → slice_get qs j ≡ Some q → HasPlace s places j q
+  pub within : (k : SequentKey) (place : ℕ) → lookup (same_key k) places ≡ Some place → place ≤ length qs
 
--- p isn't one of these before the place, and isn't one of them where there is none
-abbrev pub IsFirstPlace : List (Tm Name) → Tm Name → Option ℕ → Type 0
-IsFirstPlace ps p None = All (λ r. same_tm names r p ≡ false) ps
-IsFirstPlace ps p (Some place) = (place ≤ length ps) × All (λ r. same_tm names r p ≡ false) (take place ps)
+-- q isn't one of these before the place, and isn't one of them where there is none
+abbrev pub IsFirstPlace : List (Sequent Name) → Sequent Name → Option ℕ → Type 0
+IsFirstPlace qs q None = All (λ r. same_sequent names q r ≡ false) qs
+IsFirstPlace qs q (Some place) = (place ≤ length qs) × All (λ r. same_sequent names q r ≡ false) (take place qs)

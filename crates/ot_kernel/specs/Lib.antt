@@ -1,8 +1,11 @@
 -- What contracts see of a kernel, and what holds of it at all times.
 pub mod State
 pub mod Definitions
+pub mod Keys
 pub mod Places
 pub mod Alike
+pub mod Chains
+pub mod Candidates
 pub mod Spelled
 pub mod Axioms
 pub mod Defining

@@ -9,6 +9,7 @@ use Rattle.ot_logic.specs.Naming.{names, name_of, IsNameTable}
 use Rattle.ot_logic.specs.Bounds.{names_in, names_in_terms}
 use Rattle.ot_term.specs.Term.{TermTable}
 use Rattle.ot_term.specs.TermTable.{IsTermTable}
+use Rattle.ot_kernel.specs.declared.key.SequentKey.{SequentKey}
 use Rattle.ot_kernel.specs.declared.theorem.Theorem.{Theorem}
 use Rattle.ot_define.specs.Signature.{Symbols}
 use Rattle.ot_kernel.specs.declared.definition.Definition as code
@@ -17,13 +18,13 @@ use Rattle.ot_kernel.specs.State.{State, named_at, IsSoundState}
 use Rattle.ot_kernel.specs.Definitions.{definition_at, IsHeld, IsSignature}
 
 -- the theorems that a kernel holds, the numbers of those that are assumptions, the definitions with their symbols,
--- and the places of the assumptions by the classes of their conclusions
+-- and the places of the assumptions by their keys
 pub record Held : Type 0 where
   pub theorems : List Theorem
   pub assumptions : List ℕ
   pub definitions : List code.Definition
   pub signature : Symbols
-  pub places : List (ℕ × ℕ)
+  pub places : List (SequentKey × ℕ)
 
 -- the sequent of a theorem, over the real terms
 abbrev pub sequent_of : List (Named Name) → Theorem → Sequent Name

@@ -71,6 +71,10 @@ term_at s i = nameless names (named_at s.terms i)
 abbrev pub terms_at : State → List ℕ → List (Tm Name)
 terms_at s = map (term_at s)
 
+-- the sequent of hypotheses and a conclusion
+abbrev pub sequent_at : State → List ℕ → ℕ → Sequent Name
+sequent_at s hyps concl = record { hyps = terms_at s hyps; concl = term_at s concl }
+
 abbrev pub theorem_at : State → ℕ → Sequent Name
 theorem_at s i = slice_index_or s.theorems i (record { hyps = []; concl = Bound 0 })
 

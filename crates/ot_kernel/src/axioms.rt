@@ -3,10 +3,10 @@ ghost use Rattle.std.specs.Prelude.{◌≡◌, ◌<◌, ◌≤◌, map, length, 
 ghost use Rattle.std.specs.Prelude.{false, IfOk, IfErr, IfSome, OnOk, OnErr};
 ghost use Rattle.std.specs.List.{All, list_all};
 ghost use Rattle.std.specs.Option.{option_map};
-ghost use Rattle.ot_logic.specs.Hol.{same_tm, same_sequent};
+ghost use Rattle.ot_logic.specs.Hol.{same_sequent};
 ghost use Rattle.ot_logic.specs.Naming.{names};
 ghost use Rattle.ot_logic.specs.Rules.{has_type};
-ghost use Rattle.ot_kernel.specs.State.{type_at, term_at, terms_at, theorem_at, Keeps};
+ghost use Rattle.ot_kernel.specs.State.{type_at, term_at, terms_at, sequent_at, theorem_at, Keeps};
 ghost use Rattle.ot_kernel.specs.Spelled.{sequent_of, IsInside};
 ghost use Rattle.ot_kernel.specs.Axioms.{axiom_rule};
 ghost use Rattle.ot_kernel.specs.Answers.{Assumes};
@@ -16,6 +16,7 @@ ghost use Rattle.ot_logic.specs.RanOut.{ran_out};
 use crate::fault::RuleFault;
 use crate::hypotheses::once_each;
 use crate::kernel::Kernel;
+use crate::key::key_of;
 use crate::theorem::{Theorem, ThmId};
 use ot_logic::Memory;
 use ot_term::TermId;
@@ -71,7 +72,7 @@ impl Kernel {
         ensures first { option_map (theorem_at self.now) result
             ≡ find (λ r. same_sequent names r (sequent_of self.now.terms theorem.now)) self.now.assumptions }
     {
-        let from = self.first_place(theorem.concl);
+        let from = self.first_place(&theorem.hyps, theorem.concl);
         self.first_same(&self.assumptions()[from..], theorem)
     }
 
@@ -92,14 +93,20 @@ impl Kernel {
         None
     }
 
-    /// A place among the assumptions, or their end, before which none has this conclusion.
-    pub fn first_place(&self, concl: TermId) -> usize
-        requires { concl < length self.now.terms }
+    /// A place among the assumptions, or their end, before which none is this sequent.
+    ///
+    /// Its key takes memory: without that the answer is the first place.
+    pub fn first_place(&self, hyps: &[TermId], concl: TermId) -> usize
+        requires hyps { All (λ i. i < length self.now.terms) hyps.now }
+        requires concl { concl < length self.now.terms }
         ensures within { result ≤ length self.now.assumptions }
-        ensures none { All (λ r. same_tm names r.concl (term_at self.now concl) ≡ false)
+        ensures none { All (λ r. same_sequent names r (sequent_at self.now hyps.now concl) ≡ false)
             (take result self.now.assumptions) }
     {
-        match self.places.get(self.terms.class(concl)) {
+        let Ok(key) = key_of(self.alloc, &self.terms, hyps, concl) else {
+            return 0;
+        };
+        match self.places.get(&key) {
             Some(place) => place,
             None => self.assumptions.len(),
         }
@@ -114,9 +121,9 @@ impl Kernel {
             × (self.new ≡ supposing self.old (sequent_of self.old.terms theorem))) }
         ensures err { IfErr result (λ e. (self.new ≡ self.old) × (e ≡ RuleFault.Memory ran_out)) }
     {
-        let class = self.terms.class(theorem.concl);
+        let key = key_of(self.alloc, &self.terms, &theorem.hyps, theorem.concl)?;
         let place = self.assumptions.len();
-        self.places.note(class, place)?;
+        self.places.note(key, place)?;
         let id = ThmId(self.theorems.len());
         self.theorems.push(theorem)?;
         if let Err(refused) = self.assumptions.push(id) {

@@ -37,7 +37,7 @@ pub struct Kernel {
     pub(crate) theorems: Vec<Theorem>,
     // The numbers of the assumptions, in their order.
     pub(crate) assumptions: Vec<ThmId>,
-    // For the class of a conclusion, a place before which no assumption has one of it.
+    // For the key of a sequent, a place before which no assumption is that sequent.
     pub(crate) places: Places,
     pub(crate) definitions: Vec<Definition>,
     // Their symbols.

@@ -2,6 +2,7 @@
 #![tactic(auto)]
 
 mod axioms;
+mod candidates;
 mod defining;
 mod definition;
 mod definitions;
@@ -11,6 +12,7 @@ mod fault;
 mod hypotheses;
 mod instances;
 mod kernel;
+mod key;
 mod membership;
 mod open_types;
 mod pairs;
@@ -20,6 +22,7 @@ mod theorem;
 mod type_operators;
 mod within;
 
+pub use candidates::Candidates;
 pub use definition::Definition;
 pub use fault::RuleFault;
 pub use kernel::Kernel;

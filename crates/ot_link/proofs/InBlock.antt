@@ -10,11 +10,10 @@ use Rattle.ot_logic.proofs.TableLemmas.{get_or-IsInjective}
 use Rattle.ot_interp.specs.Interpretation.{Interpretation, map_interpretation, after, IsWithin}
 use Rattle.ot_interp.proofs.Renaming.{after-at}
 use Rattle.ot_kernel.specs.State as kernel
-use Rattle.ot_kernel.specs.Alike.{AreFirstPlaces}
 use Rattle.ot_theory.specs.Theory.{TagText}
-use Rattle.ot_machine.specs.Meaning.{export_of, concls_of, IsRun, IsExportIn, Grows}
+use Rattle.ot_machine.specs.Meaning.{export_of, IsRun, IsExportIn, Grows}
 use Rattle.ot_machine.specs.declared.session.Session.{Session}
-use Rattle.ot_machine.specs.Contexts.{given_of, context_of, IsContextOf}
+use Rattle.ot_machine.specs.Contexts.{given_of, context_of, AreCandidatesOf, IsContextOf}
 use Rattle.ot_machine.specs.declared.context.Context as code
 use Rattle.ot_machine.specs.declared.context.Given as code_given
 use Rattle.ot_machine.specs.declared.machine.Export.{Export}
@@ -81,13 +80,13 @@ module _ (s t : Session) (run : IsRun s) (grown : Grows s t) where
         λ i. record { interpretation = composed i; theorems = theorems i }
 
     pub of_block-context : IsWithin (length t.kernel.names) c.interp.now
-        → AreFirstPlaces t.kernel (concls_of t.kernel (map (λ g. g.th) c.theorems.now)) c.places.now → IsContextOf t c
-    of_block-context symbols placed =
+        → AreCandidatesOf t c.theorems.now c.candidates.now → IsContextOf t c
+    of_block-context symbols candidates =
         let kept = of_context-kept s t run grown outer of in
         record {
           interpretation = symbols;
           theorems = given-all outer imports c.theorems.now of inside given;
           steps = rw given (All-append (λ g. g.step < length t.trace) (map given_to imports) outer.theorems.now
               (steps-inside imports inside) kept.steps);
-          placed = placed;
+          candidates = candidates;
         }

@@ -4,12 +4,12 @@ use Rattle.std.specs.Global.{Global}
 use Rattle.std.specs.List.{All}
 use Rattle.std.specs.HashMap.{HashMap, get_by}
 use Rattle.std.proofs.Common.{◌≡◌, ◌<◌, ℕ, List, [], ◌∷◌, ◌++◌, length, map, Bool, true}
-use Rattle.std.proofs.Common.{false, cond, if◌then◌else◌, refl, sym, subst}
+use Rattle.std.proofs.Common.{false, cond, if◌then◌else◌, refl, sym, ap, ◌∙◌, subst}
 use Rattle.std.proofs.lemmas.List.{map-append}
 use Rattle.std.proofs.lemmas.List.Elements.{All-nil, All-head, All-tail, All-cons, All-append, All-push}
 use Rattle.ot_interp.specs.Interpretation.{identity, map_interpretation, IsWithin}
 use Rattle.ot_kernel.specs.State as kernel
-use Rattle.ot_kernel.specs.Alike.{AreFirstPlaces}
+use Rattle.ot_kernel.specs.Candidates.{theorems_in, AreCandidates}
 use Rattle.ot_theory.specs.Theory.{TagText}
 use Rattle.ot_machine.specs.States as states
 use Rattle.ot_machine.specs.States.{RunState, Context, fresh_article, fresh_run, no_context}
@@ -26,6 +26,7 @@ use Rattle.ot_machine.specs.declared.session.Session.{Session}
 use Rattle.ot_machine.specs.declared.machine.Export.{Export}
 use Rattle.ot_machine.specs.declared.machine.Machine.{Machine}
 use Rattle.ot_machine.specs.declared.context.Context as code
+use Rattle.ot_machine.specs.declared.context.Given as code_given
 use Rattle.ot_machine.specs.declared.fault.ArticleFault.{ArticleFault}
 use Rattle.ot_machine.specs.declared.fault.ArticleFault.TheVariants as article
 use Rattle.ot_machine.proofs.InContext.{context-kept}
@@ -88,15 +89,15 @@ empty-lawful s c i t =
 -- a fresh session, without renamings and theorems
 pub empty-ready : (s : Session) (c : code.Context) → IsRun s → run_of s ≡ fresh_run
     → IsLawfulRun IsWritable fresh_run → c.interp.now ≡ identity → IsWithin (length s.kernel.names) c.interp.now
-    → c.theorems.now ≡ [] → AreFirstPlaces s.kernel [] c.places.now → IsReady s c
-empty-ready s c run start fresh i within t placed = record {
+    → c.theorems.now ≡ [] → theorems_in c.candidates.now ≡ [] → AreCandidates s.kernel c.candidates.now → IsReady s c
+empty-ready s c run start fresh i within t none found = record {
   session = run;
   lawful = subst (IsLawfulRun IsWritable) (sym start) fresh;
   context = record {
     interpretation = within;
     theorems = rw t (All-nil (λ g. g.th < length s.kernel.theorems));
     steps = rw t (All-nil (λ g. g.step < length s.trace));
-    placed = rw t placed;
+    candidates = record { theorems = none ∙ ap (map (λ (g : code_given.Given). g.th)) (sym t); found = found };
   };
   lawful_context = empty-lawful s c i t;
 }

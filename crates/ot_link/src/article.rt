@@ -21,7 +21,7 @@ use crate::fault::LinkFault;
 use crate::setting::Setting;
 use ot_interp::Interp;
 use ot_io::{Files, OpenFault, Source};
-use ot_kernel::Places;
+use ot_kernel::Candidates;
 use ot_logic::{Limits, Memory};
 use ot_machine::{ArticleFault, Context, Export, Fault, Machine, Session, fresh_law, lines_law};
 use std::alloc::Global;
@@ -91,11 +91,11 @@ pub fn run_alone<S: Source>(
 {
     fresh_law();
     let interp = Interp::new(alloc);
-    let places = Places::new(alloc);
+    let candidates = Candidates::none(alloc);
     let context = Context {
         interp: &interp,
         theorems: &[],
-        places: &places,
+        candidates: &candidates,
     };
     let setting = Setting {
         alloc,

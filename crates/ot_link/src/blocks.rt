@@ -236,13 +236,13 @@ fn run_block<F: Files>(
     let own = interpretation_of(alloc, session, &block.statements)?;
     let interp = own.after(alloc, file.outer.interp)?;
     let theorems = given_to(alloc, imports, file.outer.theorems)?;
-    let places = session.places_of(alloc, &theorems)?;
+    let candidates = session.candidates_of(alloc, &theorems)?;
     session.kernel().sound();
     naming_law();
     let context = Context {
         interp: &interp,
         theorems: &theorems,
-        places: &places,
+        candidates: &candidates,
     };
     run_source(
         setting,

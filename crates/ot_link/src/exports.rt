@@ -31,8 +31,8 @@ pub(crate) fn each_once(
         if session.is_exported(&once, &places, export.th) {
             continue;
         }
-        let concl = session.kernel().concl(export.th);
-        session.kernel().note_term(&mut places, concl, once.len())?;
+        let kernel = session.kernel();
+        kernel.note_theorem(&mut places, export.th, once.len())?;
         once.push(*export)?;
     }
     Ok(once)

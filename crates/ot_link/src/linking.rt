@@ -12,7 +12,7 @@ use crate::fault::LinkFault;
 use crate::setting::Setting;
 use ot_interp::Interp;
 use ot_io::Files;
-use ot_kernel::Places;
+use ot_kernel::Candidates;
 use ot_logic::Limits;
 use ot_machine::{Context, Export, Session, fresh_law};
 use std::alloc::Global;
@@ -90,11 +90,11 @@ fn link_first<F: Files>(
 {
     fresh_law();
     let interp = Interp::new(setting.alloc);
-    let places = Places::new(setting.alloc);
+    let candidates = Candidates::none(setting.alloc);
     let outer = Context {
         interp: &interp,
         theorems: &[],
-        places: &places,
+        candidates: &candidates,
     };
     let path = String::from_str(setting.alloc, path)?;
     let file = File {

@@ -2,19 +2,20 @@
 use Rattle.std.specs.Prelude.{◌≡◌, ◌<◌, ℕ, List, [], ◌∷◌, length, map}
 use Rattle.std.specs.List.{All}
 use Rattle.std.proofs.Common.{refl, sym, ap, ◌∙◌, arith}
-use Rattle.std.proofs.lemmas.List.Elements.{All-head, All-tail, All-map}
+use Rattle.std.proofs.lemmas.List.Elements.{All-head, All-tail}
 use Rattle.ot_logic.specs.Naming.{names, numbers, IsNameTable}
 use Rattle.ot_logic.specs.Trees.{Bound}
 use Rattle.ot_logic.proofs.TableLemmas.{get_or-IsInjective}
 use Rattle.ot_interp.specs.Interpretation.{map_pairs, renamed, AreWithin}
 use Rattle.ot_interp.proofs.Renaming.{renamed-at, IsWithin-more, map_interpretation-agree}
 use Rattle.ot_kernel.specs.State as kernel
+use Rattle.ot_kernel.proofs.Seeking.{candidates-later}
 use Rattle.ot_machine.specs.declared.context.Context as code
 use Rattle.ot_machine.specs.declared.context.Given as code_given
 use Rattle.ot_machine.specs.Contexts.{given_of, context_of, IsContextOf}
 use Rattle.ot_machine.specs.declared.session.Session.{Session}
 use Rattle.ot_machine.specs.Meaning.{IsRun, Grows}
-use Rattle.ot_machine.proofs.Kept.{at-Extends, origin-kept, places-kept}
+use Rattle.ot_machine.proofs.Kept.{at-Extends, origin-kept}
 
 -- a name that a map of numbers gives, by the names of the numbers
 pub name-renamed : (k : kernel.State) (pairs : List (ℕ × ℕ)) (n m : ℕ) → IsNameTable k.names
@@ -24,11 +25,6 @@ name-renamed k pairs n m table within below is =
     ap (kernel.name_at k) is
     ∙ sym (renamed-at (kernel.name_at k) (length k.names)
     (λ i j. get_or-IsInjective k.names table.injective i j []) pairs n within below)
-
--- the theorems of givens are of the kernel
-pub given-theorems : (k : kernel.State) (gs : List code_given.Given) → All (λ g. g.th < length k.theorems) gs
-    → All (λ th. th < length k.theorems) (map (λ g. g.th) gs)
-given-theorems k gs h = All-map (λ th. th < length k.theorems) (λ (g : code_given.Given). g.th) gs h
 
 -- ---- a context over a session that grew
 module _ (s t : Session) (run : IsRun s) (grown : Grows s t) where
@@ -57,6 +53,8 @@ module _ (s t : Session) (run : IsRun s) (grown : Grows s t) where
         c.interp.now h.interpretation;
     theorems = λ i g q. let x = h.theorems i g q in omega (arith, x, grown.kernel.theorems.longer);
     steps = λ i g q. let x = h.steps i g q in omega (arith, x, grown.trace.longer);
-    placed = places-kept s.kernel t.kernel grown.kernel (map (λ g. g.th) c.theorems.now)
-        (given-theorems s.kernel c.theorems.now h.theorems) c.places.now h.placed;
+    candidates = record {
+      theorems = h.candidates.theorems;
+      found = candidates-later s.kernel t.kernel grown.kernel c.candidates.now h.candidates.found;
+    };
   }

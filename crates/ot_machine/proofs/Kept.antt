@@ -9,15 +9,15 @@ use Rattle.std.specs.Option.{option_map}
 use Rattle.std.specs.FinMap.{find, get, get-from_entries, same_map, int_cmp-IsAntisymmetric}
 use Rattle.std.proofs.Common.{refl, sym, ◌∙◌, ap, subst, arith, true, false, inl, inr}
 use Rattle.std.proofs.lemmas.Option.{slice_get-get_or, get_or_from_slice_get}
-use Rattle.std.proofs.lemmas.List.Elements.{All-nil, All-cons, All-head, All-tail, All-append, All-map}
+use Rattle.std.proofs.lemmas.List.Elements.{All-nil, All-cons, All-head, All-tail, All-append}
 use Rattle.ot_logic.specs.Table.{Extends}
 use Rattle.ot_logic.specs.Names.{Name}
-use Rattle.ot_logic.specs.Trees.{TyVar, NConst, Tm, Bound, Sequent, Definition}
+use Rattle.ot_logic.specs.Trees.{TyVar, NConst, Bound, Sequent, Definition}
 use Rattle.ot_logic.specs.NamedTerms.{nameless}
 use Rattle.ot_logic.specs.Naming.{names}
 use Rattle.ot_logic.proofs.TableLemmas.{Extends-refl, Extends-trans, Extends-append}
 use Rattle.ot_kernel.specs.State as kernel
-use Rattle.ot_kernel.specs.Alike.{HasPlace, AreFirstPlaces}
+use Rattle.ot_kernel.specs.Alike.{AreFirstPlaces}
 use Rattle.ot_trace.specs.Trace.{origin_at}
 use Rattle.ot_trace.specs.Origins.{Origin, Origins, Number, Named, Make, Define, Outcome}
 use Rattle.ot_trace.specs.Origins.{NoOrigins, MoreOrigins, map_origin, map_origins}
@@ -32,7 +32,8 @@ use Rattle.ot_machine.specs.declared.machine.Export as code
 use Rattle.ot_machine.specs.declared.machine.Machine.{Machine}
 use Rattle.ot_machine.specs.Meaning.{list_at, object_of, cell_of, cells_onto, cells_of, IsIn, IsCell, AreCells}
 use Rattle.ot_machine.specs.Meaning.{origin_of, origin_or, AreNamesBelow, AreAllNamesBelow, givens_of, made_of}
-use Rattle.ot_machine.specs.Meaning.{IsRun, entry_of, dictionary_of, export_of, concls_of, version_of, lists_of}
+use Rattle.ot_kernel.proofs.Placed.{places-later}
+use Rattle.ot_machine.specs.Meaning.{IsRun, entry_of, dictionary_of, export_of, exported_by, version_of, lists_of}
 use Rattle.ot_machine.specs.Meaning.{article_of, HasStep, IsEntryIn, IsExportIn, IsOf, Grows, Leaves, Traces}
 
 -- ---- kernels that grow
@@ -250,39 +251,15 @@ dictionary-same s t cs ds es same = same_map int_cmp_total int_cmp-IsAntisymmetr
     at q None e = rw e refl
     at q (Some o) e = rw e (ap Some (same q o e))
 
--- the theorems of exports are of the kernel
-pub exported-theorems : (s : Session) (es : List code.Export) → All (IsExportIn s) es
-    → All (λ th. th < length s.kernel.theorems) (map (λ e. e.th) es)
-exported-theorems s es h = All-map (λ th. th < length s.kernel.theorems) (λ (e : code.Export). e.th) es
-    (λ i d p. (h i d p).th)
-
--- ---- theorems that are found by their conclusions, over a kernel that grew
-module _ (k l : kernel.State) (kept : kernel.Keeps k l) where
-  concls-kept : (ths : List ℕ) → All (λ th. th < length k.theorems) ths → concls_of l ths ≡ concls_of k ths
-  concls-kept [] h = refl
-  concls-kept (th ∷ ths) h =
-      let a = at-Extends k.theorems l.theorems kept.theorems (record { hyps = []; concl = Bound 0 }) th
-      (All-head (λ th. th < length k.theorems) th ths h) in
-      let b = concls-kept ths (All-tail (λ th. th < length k.theorems) th ths h) in
-      λ i. (a i).concl ∷ b i
-
-  pub places-kept : (ths : List ℕ) → All (λ th. th < length k.theorems) ths → (ps : List (ℕ × ℕ))
-      → AreFirstPlaces k (concls_of k ths) ps → AreFirstPlaces l (concls_of l ths) ps
-  places-kept ths h ps p = subst (λ cs. AreFirstPlaces l cs ps) (sym (concls-kept ths h))
-      (record { found = λ j q is. later j q (p.found j q is); within = p.within })
-    where
-      later : (j : ℕ) (q : Tm Name) → HasPlace k ps j q → HasPlace l ps j q
-      later j q x = record {
-        term = x.term;
-        within = omega (arith, x.within, kept.terms.longer);
-        class = x.class;
-        classed = kept.classes.keeps x.term x.class x.classed;
-        is = ap (nameless names) (at-Extends k.terms l.terms kept.terms (NConst [] (TyVar [])) x.term x.within)
-            ∙ x.is;
-        place = x.place;
-        found = x.found;
-        first = x.first;
-      }
+-- the sequents of exports, over a session that grew
+pub exported-kept : (s t : Session) → Grows s t → (es : List code.Export) → All (IsExportIn s) es
+    → exported_by t.kernel es ≡ exported_by s.kernel es
+exported-kept s t grown [] h = refl
+exported-kept s t grown (e ∷ es) h =
+    let a = at-Extends s.kernel.theorems t.kernel.theorems grown.kernel.theorems (record { hyps = []; concl = Bound 0 })
+    e.th (All-head (IsExportIn s) e es h).th in
+    let b = exported-kept s t grown es (All-tail (IsExportIn s) e es h) in
+    λ i. a i ∷ b i
 
 -- ---- a machine over a session that grew
 module _ (s t : Session) (m : Machine) (h : IsOf s m) (grown : Grows s t) where
@@ -313,8 +290,9 @@ module _ (s t : Session) (m : Machine) (h : IsOf s m) (grown : Grows s t) where
       list = omega (arith, x.list, grown.trace.longer);
       term = omega (arith, x.term, grown.trace.longer);
     };
-    placed = places-kept s.kernel t.kernel grown.kernel (map (λ e. e.th) m.exports.items)
-        (exported-theorems s m.exports.items h.exports) m.places h.placed;
+    placed = subst (λ qs. AreFirstPlaces t.kernel qs m.places)
+        (sym (exported-kept s t grown m.exports.items h.exports))
+        (places-later s.kernel t.kernel grown.kernel (exported_by s.kernel m.exports.items) m.places h.placed);
     cells = cells-of_kept s.kernel t.kernel grown.kernel m.cells.items h.cells;
   }
 

@@ -18,6 +18,7 @@ use Rattle.ot_logic.specs.declared.command.Cmd.TheVariants as words
 use Rattle.ot_laws.proofs.Tests.{tells_names}
 use Rattle.ot_laws.proofs.Hypotheses.{all_in-is, same_sequent-is, same_set-once_each}
 use Rattle.ot_kernel.specs.Axioms.{axiom_rule}
+use Rattle.ot_kernel.specs.Candidates.{is_stronger}
 use Rattle.ot_kernel.specs.State as kernel
 use Rattle.ot_trace.specs.Origins.{Origin, Origins, Make}
 use Rattle.ot_machine.specs.States.{Entry, Given, RunState, Context}
@@ -26,7 +27,7 @@ use Rattle.ot_machine.specs.Discharge.{weakened, given_for, or_weakened, dischar
 use Rattle.ot_machine.specs.Assumptions.{term_entries, assumed_new, used}
 use Rattle.ot_machine.specs.declared.session.Session.{Session}
 use Rattle.ot_machine.specs.declared.context.Given as code
-use Rattle.ot_machine.specs.Meaning.{origin_of, givens_of, concls_of}
+use Rattle.ot_machine.specs.Meaning.{origin_of, givens_of}
 use Rattle.ot_machine.specs.Contexts.{given_of}
 
 -- ---- a sequent, and the same with each hypothesis once
@@ -160,47 +161,29 @@ pub theorem-from : (k : kernel.State) (ths : List ℕ) (i th : ℕ) → map (ker
 theorem-from k ths i th all e = ap (kernel.theorem_at k) e ∙ sym (get_or-map (kernel.theorem_at k) ths i th)
     ∙ ap (λ qs. get_or qs i (kernel.theorem_at k th)) all
 
--- ---- a search that begins at a place before which no conclusion is the stated one
--- a conjunction fails where its last part does
-and-last : (x y : Bool) → y ≡ false → (x && y) ≡ false
-and-last true y e = e
-and-last false y e = refl
-
+-- ---- a search that begins at a place before which there is nothing to find
 pub assumed-past : (s : Session) (q : Sequent Name) (qs : List (Sequent Name)) (is : List ℕ) (n : ℕ)
-    → length is ≡ length qs → All (λ r. same_tm names r.concl q.concl ≡ false) (take n qs)
+    → length is ≡ length qs → All (λ r. same_sequent names r q ≡ false) (take n qs)
     → given_as q (givens_of s qs is) ≡ given_as q (givens_of s (drop n qs) (drop n is))
 assumed-past s q qs is zero same none = refl
 assumed-past s q [] [] (suc n) same none = refl
 assumed-past s q [] (i ∷ is) (suc n) same none = absurd (omega (arith, same))
 assumed-past s q (r ∷ qs) [] (suc n) same none = absurd (omega (arith, same))
 assumed-past s q (r ∷ qs) (i ∷ is) (suc n) same none =
-    let here = All-head (λ (r : Sequent Name). same_tm names r.concl q.concl ≡ false) r (take n qs) none in
+    let here = All-head (λ (r : Sequent Name). same_sequent names r q ≡ false) r (take n qs) none in
     let rest = assumed-past s q qs is n (omega (arith, same))
-    (All-tail (λ (r : Sequent Name). same_tm names r.concl q.concl ≡ false) r (take n qs) none) in
-    ap (λ b. cond b (Some (record { sequent = r; origin = origin_of s i })) (given_as q (givens_of s qs is)))
-    (and-last _ _ here) ∙ rest
+    (All-tail (λ (r : Sequent Name). same_sequent names r q ≡ false) r (take n qs) none) in
+    ap (λ b. cond b (Some (record { sequent = r; origin = origin_of s i })) (given_as q (givens_of s qs is))) here
+    ∙ rest
 
 pub context-past : (s : Session) (q : Sequent Name) (gs : List code.Given) (n : ℕ)
-    → All (λ p. same_tm names p q.concl ≡ false) (take n (concls_of s.kernel (map (λ g. g.th) gs)))
+    → All (λ r. is_stronger r q ≡ false) (take n (map (kernel.theorem_at s.kernel) (map (λ g. g.th) gs)))
     → given_for q (map (given_of s) gs) ≡ given_for q (map (given_of s) (drop n gs))
 context-past s q gs zero none = refl
 context-past s q [] (suc n) none = refl
 context-past s q (g ∷ gs) (suc n) none =
-    let concls = take n (concls_of s.kernel (map (λ g. g.th) gs)) in
-    let here = All-head (λ p. same_tm names p q.concl ≡ false) (kernel.theorem_at s.kernel g.th).concl concls none in
-    let rest =
-    context-past s q gs n
-    (All-tail (λ p. same_tm names p q.concl ≡ false) (kernel.theorem_at s.kernel g.th).concl concls none) in
-    ap (λ b. cond b (Some (given_of s g)) (given_for q (map (given_of s) gs))) (and-last _ _ here) ∙ rest
-
-pub context-none : (s : Session) (q : Sequent Name) (gs : List code.Given)
-    → All (λ p. same_tm names p q.concl ≡ false) (concls_of s.kernel (map (λ g. g.th) gs))
-    → given_for q (map (given_of s) gs) ≡ None
-context-none s q [] none = refl
-context-none s q (g ∷ gs) none =
-    let concls = concls_of s.kernel (map (λ g. g.th) gs) in
-    let here = All-head (λ p. same_tm names p q.concl ≡ false) (kernel.theorem_at s.kernel g.th).concl concls none in
-    let rest =
-    context-none s q gs
-    (All-tail (λ p. same_tm names p q.concl ≡ false) (kernel.theorem_at s.kernel g.th).concl concls none) in
-    ap (λ b. cond b (Some (given_of s g)) (given_for q (map (given_of s) gs))) (and-last _ _ here) ∙ rest
+    let rest = take n (map (kernel.theorem_at s.kernel) (map (λ g. g.th) gs)) in
+    let here = All-head (λ r. is_stronger r q ≡ false) (kernel.theorem_at s.kernel g.th) rest none in
+    let others =
+    context-past s q gs n (All-tail (λ r. is_stronger r q ≡ false) (kernel.theorem_at s.kernel g.th) rest none) in
+    ap (λ b. cond b (Some (given_of s g)) (given_for q (map (given_of s) gs))) here ∙ others

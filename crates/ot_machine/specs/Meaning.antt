@@ -8,7 +8,7 @@ use Rattle.std.specs.FinMap.{FinMap, from_entries}
 use Rattle.ot_logic.specs.Table.{Extends}
 use Rattle.ot_logic.specs.Hol.{depth_limit}
 use Rattle.ot_logic.specs.Names.{Name}
-use Rattle.ot_logic.specs.Trees.{Tm, Sequent, Definition}
+use Rattle.ot_logic.specs.Trees.{Sequent, Definition}
 use Rattle.ot_kernel.specs.State as kernel
 use Rattle.ot_kernel.specs.Alike.{AreFirstPlaces}
 use Rattle.ot_machine.specs.Objects.{Object, Objects, number, name, list, type_op, a_type, constant}
@@ -216,18 +216,18 @@ pub record IsExportIn (s : Session) (e : code.Export) : Type 0 where
   pub list : e.list < length s.trace
   pub term : e.term < length s.trace
 
--- the conclusions of theorems
-abbrev pub concls_of : kernel.State → List ℕ → List (Tm Name)
-concls_of k = map (λ th. (kernel.theorem_at k th).concl)
+-- the sequents of exports
+abbrev pub exported_by : kernel.State → List code.Export → List (Sequent Name)
+exported_by k = map (λ e. kernel.theorem_at k e.th)
 
--- the machine's numbers are of the session, and its exports are found by the classes of their conclusions
+-- the machine's numbers are of the session, and its exports are found by their sequents
 pub record IsOf (s : Session) (m : Machine) : Type 0 where
   pub run : IsRun s
   pub stack : All (IsEntryIn s (length m.cells.items)) m.stack.items
   pub dictionary : (q : ℤ) (e : code_entry.Entry) → lookup (int_eq q) m.dictionary.entries ≡ Some e
       → IsEntryIn s (length m.cells.items) e
   pub exports : All (IsExportIn s) m.exports.items
-  pub placed : AreFirstPlaces s.kernel (concls_of s.kernel (map (λ e. e.th) m.exports.items)) m.places
+  pub placed : AreFirstPlaces s.kernel (exported_by s.kernel m.exports.items) m.places
   pub cells : AreCells s.kernel m.cells.items
 
 -- ---- a session that grew

@@ -4,13 +4,11 @@ ghost use Rattle.std.specs.List.{All};
 ghost use Rattle.ot_logic.specs.Naming.{names};
 ghost use Rattle.ot_interp.specs.Interpretation.{renamed};
 ghost use Rattle.ot_kernel.specs.State.{name_at};
-ghost use Rattle.ot_kernel.specs.Alike.{AreFirstPlaces};
-ghost use Rattle.ot_machine.specs.Meaning.{concls_of};
-ghost use Rattle.ot_machine.specs.Contexts.{context_of, IsContextOf};
+ghost use Rattle.ot_machine.specs.Contexts.{context_of, AreCandidatesOf, IsContextOf};
 
 use crate::session::Session;
 use ot_interp::Interp;
-use ot_kernel::{Places, ThmId};
+use ot_kernel::{Candidates, ThmId};
 use ot_logic::{Memory, NameId};
 use ot_term::VarKey;
 use ot_trace::StepId;
@@ -28,24 +26,21 @@ pub struct Given {
 pub struct Context<'a> {
     pub interp: &'a Interp,
     pub theorems: &'a [Given],
-    /// The places of their conclusions among these.
-    pub places: &'a Places,
+    /// The same theorems, as they are found.
+    pub candidates: &'a Candidates,
 }
 
 impl Session {
-    /// The places of the conclusions among theorems of this session.
-    pub fn places_of(&self, alloc: Global, theorems: &[Given]) -> Result<Places, Memory>
+    /// Theorems of this session, as they are found.
+    pub fn candidates_of(&self, alloc: Global, theorems: &[Given]) -> Result<Candidates, Memory>
         requires { All (λ g. g.th < length self.now.kernel.theorems) theorems.now }
-        ensures { IfOk result
-            (λ places. AreFirstPlaces self.now.kernel (concls_of self.now.kernel (map (λ g. g.th) theorems.now))
-            places) }
+        ensures { IfOk result (AreCandidatesOf self.now theorems.now) }
     {
-        let mut places = Places::new(alloc);
-        for place in 0..theorems.len() {
-            let concl = self.kernel.concl(theorems[place].th);
-            self.kernel.note_term(&mut places, concl, place)?;
+        let mut candidates = Vec::new(alloc);
+        for given in theorems {
+            candidates.push(given.th)?;
         }
-        Ok(places)
+        self.kernel.candidates(alloc, candidates)
     }
 
     /// The name of a constant that an article calls by this name.

@@ -5,7 +5,7 @@ ghost use Rattle.ot_logic.specs.Hol.{same_sequent};
 ghost use Rattle.ot_logic.specs.Naming.{names};
 ghost use Rattle.ot_kernel.specs.State.{theorem_at};
 ghost use Rattle.ot_kernel.specs.Alike.{AreFirstPlaces};
-ghost use Rattle.ot_machine.specs.Meaning.{export_of, concls_of, article_of, IsOf};
+ghost use Rattle.ot_machine.specs.Meaning.{export_of, exported_by, article_of, IsOf};
 ghost use Rattle.ot_machine.specs.Rows.{exported, is_exported};
 
 use crate::machine::{Export, Machine};
@@ -44,9 +44,8 @@ impl Session {
         if self.is_exported(&machine.exports, &machine.places, th) {
             return Ok(());
         }
-        let concl = self.kernel.concl(th);
         let place = machine.exports.len();
-        self.kernel.note_term(&mut machine.places, concl, place)?;
+        self.kernel.note_theorem(&mut machine.places, th, place)?;
         machine.exports.push(Export {
             th,
             theorem,
@@ -57,15 +56,16 @@ impl Session {
     }
 
     /// Whether one of these exports is the theorem's sequent: the same set of hypotheses and the same conclusion, up
-    /// to the names of binders. All numbers have to be of this session, and the places those of the exports'
-    /// conclusions.
+    /// to the names of binders. All numbers have to be of this session, and the places those of the exports.
     pub fn is_exported(&self, exports: &[Export], places: &Places, theorem: ThmId) -> bool
         requires exports { All (λ e. e.th < length self.now.kernel.theorems) exports.now }
-        requires placed { AreFirstPlaces self.now.kernel (concls_of self.now.kernel (map (λ e. e.th) exports.now)) places.now }
+        requires placed { AreFirstPlaces self.now.kernel (exported_by self.now.kernel exports.now) places.now }
         requires inside { theorem < length self.now.kernel.theorems }
         ensures { result ≡ is_exported (theorem_at self.now.kernel theorem) (map (export_of self.now) exports.now) }
     {
-        match self.kernel.place_of(places, self.kernel.concl(theorem)) {
+        let hyps = self.kernel.hyps(theorem);
+        let concl = self.kernel.concl(theorem);
+        match self.kernel.place_of(places, hyps, concl) {
             Some(place) => self.is_among(&exports[place..], theorem),
             None => false,
         }

@@ -54,7 +54,7 @@ pub struct Machine {
     pub(crate) stack: Vec<Entry>,
     pub(crate) dictionary: IndexMap<i64, Entry, BuildHasherDefault<KeyHasher>>,
     pub(crate) exports: Vec<Export>,
-    // The places of their conclusions among the exports.
+    // The places of their sequents among the exports.
     pub(crate) places: Places,
     pub(crate) cells: Vec<Cell>,
     count: u64,

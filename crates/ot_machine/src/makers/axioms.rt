@@ -132,7 +132,7 @@ impl Session {
             }) (run_of self.now).assumptions }
     {
         let theorems = self.kernel.assumptions();
-        for place in self.kernel.first_place(concl)..theorems.len() {
+        for place in self.kernel.first_place(hyps, concl)..theorems.len() {
             let given = Given {
                 th: theorems[place],
                 step: self.assumption_steps[place],

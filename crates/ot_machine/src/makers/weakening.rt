@@ -47,10 +47,8 @@ impl Session {
                   concl;
             }) (context_of self.now context.now).theorems }
     {
-        match self.kernel.place_of(context.places, concl) {
-            Some(place) => self.first_given(&context.theorems[place..], hyps, concl),
-            None => None,
-        }
+        let place = self.kernel.first_within(context.candidates, hyps, concl);
+        self.first_given(&context.theorems[place..], hyps, concl)
     }
 
     /// The first of these theorems with this conclusion and with hypotheses among these.

@@ -16,7 +16,8 @@ pub run_named-requires-clause-ready : goal.run_named-requires-clause-ready
 run_named-requires-clause-ready g c =
     let s = c.args.session.now in
     empty-ready s _ c.requires.session c.requires.fresh c.fresh_law.ensures.written.0 c.new-interp.ensures.pairs
-    (c.new-interp.ensures.within (length s.kernel.names)) refl (c.new-places.ensures.none s.kernel)
+    (c.new-interp.ensures.within (length s.kernel.names)) refl c.none-candidates.ensures.theorems
+    (c.none-candidates.ensures.found s.kernel)
 
 pub returns-clause-reads : goal.returns-clause-reads
 returns-clause-reads g c =

@@ -12,16 +12,15 @@ use Rattle.ot_io.proofs.Keeping.{KeepsFiles-then}
 use Rattle.ot_io.proofs.Readings.{Files-none, Files-map, Files-next}
 use Rattle.ot_interp.specs.Interpretation.{map_interpretation}
 use Rattle.ot_kernel.specs.State.{name_at}
-use Rattle.ot_kernel.specs.Alike.{AreFirstPlaces}
 use Rattle.ot_theory.specs.Answers.{theory_of, block_of, blocks_of, tags_of}
 use Rattle.ot_blocks.specs.Answers.{plan_of}
 use Rattle.ot_blocks.specs.Structure.{block_places}
 use Rattle.ot_blocks.specs.declared.fault.StructureFault.TheVariants.{PackageCycle, PackageDepth}
-use Rattle.ot_machine.specs.Meaning.{export_of, concls_of, run_of, IsExportIn}
+use Rattle.ot_machine.specs.Meaning.{export_of, run_of, IsExportIn}
 use Rattle.ot_machine.specs.States.{Export}
 use Rattle.ot_machine.specs.declared.machine.Export as code
 use Rattle.ot_machine.specs.declared.context.Context.{Context}
-use Rattle.ot_machine.specs.Contexts.{context_of}
+use Rattle.ot_machine.specs.Contexts.{context_of, AreCandidatesOf}
 use Rattle.ot_machine.proofs.Kept.{grows-on}
 use Rattle.ot_machine.proofs.Turning.{grows-same}
 use Rattle.ot_machine.proofs.InContext.{context-kept, of_context-kept}
@@ -234,13 +233,13 @@ run_block-returns-in_err-theorems-clause-cause g t c =
     let p = err_from_is_err_and c.from_residual-in_err-theorems.result c.from_residual-in_err-theorems.ensures.1 in
     rw (p.1, p.2) tt
 
-pub run_block-returns-in_err-places-clause-comes : goal.run_block-returns-in_err-places-clause-comes
-run_block-returns-in_err-places-clause-comes g t c =
-    out-of-memory c.interpretation_of.new.session.kernel _ _ _ c.from_residual-in_err-places.ensures.1
+pub run_block-returns-in_err-candidates-clause-comes : goal.run_block-returns-in_err-candidates-clause-comes
+run_block-returns-in_err-candidates-clause-comes g t c =
+    out-of-memory c.interpretation_of.new.session.kernel _ _ _ c.from_residual-in_err-candidates.ensures.1
 
-pub run_block-returns-in_err-places-clause-cause : goal.run_block-returns-in_err-places-clause-cause
-run_block-returns-in_err-places-clause-cause g t c =
-    let p = err_from_is_err_and c.from_residual-in_err-places.result c.from_residual-in_err-places.ensures.1 in
+pub run_block-returns-in_err-candidates-clause-cause : goal.run_block-returns-in_err-candidates-clause-cause
+run_block-returns-in_err-candidates-clause-cause g t c =
+    let p = err_from_is_err_and c.from_residual-in_err-candidates.result c.from_residual-in_err-candidates.ensures.1 in
     rw (p.1, p.2) tt
 
 -- ---- a theory file's blocks, and a block's file
@@ -260,8 +259,8 @@ link_file-run_blocks-requires g t c κs within =
       ),
     )
 
-pub run_block-places_of-requires : goal.run_block-places_of-requires
-run_block-places_of-requires g t c =
+pub run_block-candidates_of-requires : goal.run_block-candidates_of-requires
+run_block-candidates_of-requires g t c =
     given-all c.args.session.now c.interpretation_of.new.session c.requires.ready.session c.in_ok-own.ensures.grown
     c.args.file.now.outer.now c.args.imports.now c.deref-2.result.now c.requires.ready.context c.requires.imports
     (c.deref-2.ensures.value ∙ c.in_ok-theorems.ensures)
@@ -286,16 +285,15 @@ run_block-run_source-requires g t c κs within =
     record {
       interp = record { ref_ptr = outer.interp.ref_ptr; now = c.in_ok-interp.interp };
       theorems = c.deref-3.result;
-      places =
-          record { ref_ptr = outer.places.ref_ptr; now = c.in_ok-places.places };
+      candidates =
+          record { ref_ptr = outer.candidates.ref_ptr; now = c.in_ok-candidates.candidates };
     } in
     let same_theorems = c.deref-2.ensures.value ∙ sym c.deref-3.ensures.value in
-    let placed =
-    subst (λ gs. AreFirstPlaces mid.kernel (concls_of mid.kernel (map (λ g. g.th) gs)) c.in_ok-places.places)
-    same_theorems c.in_ok-places.ensures in
+    let candidates =
+    subst (λ gs. AreCandidatesOf mid gs c.in_ok-candidates.candidates) same_theorems c.in_ok-candidates.ensures in
     let context = of_block-context old mid c.requires.ready.session kept outer _ c.in_ok-own.own statements imports
     c.requires.ready.context c.in_ok-own.ensures.within named c.in_ok-interp.ensures.pairs given c.requires.imports
-    symbols placed in
+    symbols candidates in
     let same = block-context old mid c.requires.ready.session kept outer inner c.in_ok-own.own statements imports
     c.requires.ready.context c.in_ok-own.ensures.within named c.in_ok-interp.ensures.pairs given c.requires.imports
     (subst (λ state. IsNameTable state.names) c.kernel.ensures c.sound.ensures.names) in
@@ -344,8 +342,8 @@ run_block-returns-clause-comes g t c =
     record {
       interp = record { ref_ptr = outer.interp.ref_ptr; now = c.in_ok-interp.interp };
       theorems = c.deref-3.result;
-      places =
-          record { ref_ptr = outer.places.ref_ptr; now = c.in_ok-places.places };
+      candidates =
+          record { ref_ptr = outer.candidates.ref_ptr; now = c.in_ok-candidates.candidates };
     } in
     let context = block-context old mid c.requires.ready.session kept outer inner c.in_ok-own.own statements imports
     c.requires.ready.context c.in_ok-own.ensures.within named c.in_ok-interp.ensures.pairs given c.requires.imports
@@ -593,9 +591,9 @@ run_block-returns-in_err-theorems-clause-left g t c =
     c.in_ok-own.ensures.session
     (stays-as c.args.session.now c.interpretation_of.new.session c.in_ok-own.ensures.run c.requires.ready.lawful)
 
-pub run_block-returns-in_err-places-clause-left : goal.run_block-returns-in_err-places-clause-left
-run_block-returns-in_err-places-clause-left g t c =
-    left-stopped _ _ c.from_residual-in_err-places.ensures.1 tt c.in_ok-own.ensures.grown c.in_ok-own.ensures.session
+pub run_block-returns-in_err-candidates-clause-left : goal.run_block-returns-in_err-candidates-clause-left
+run_block-returns-in_err-candidates-clause-left g t c =
+    left-stopped _ _ c.from_residual-in_err-candidates.ensures.1 tt c.in_ok-own.ensures.grown c.in_ok-own.ensures.session
     (stays-as c.args.session.now c.interpretation_of.new.session c.in_ok-own.ensures.run c.requires.ready.lawful)
 
 pub run_block-returns-clause-left : goal.run_block-returns-clause-left

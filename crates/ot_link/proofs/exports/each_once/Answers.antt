@@ -1,10 +1,10 @@
 use Rattle.std.proofs.Common.{◌≡◌, ◌∙◌, ◌+◌, ◌++◌, ◌∷◌, List, [], drop, false, length, map, ap, subst, sym, arith}
 use Rattle.ot_logic.specs.Names.{Name}
-use Rattle.ot_logic.specs.Trees.{Tm}
+use Rattle.ot_logic.specs.Trees.{Sequent}
 use Rattle.std.specs.List.{All}
 use Rattle.std.proofs.lemmas.List.{drop_all}
 use Rattle.std.proofs.lemmas.List.Elements.{All-push}
-use Rattle.ot_kernel.specs.State.{theorem_at, term_at}
+use Rattle.ot_kernel.specs.State.{theorem_at}
 use Rattle.ot_kernel.specs.Alike.{AreFirstPlaces}
 use Rattle.ot_machine.specs.Meaning.{export_of, IsExportIn}
 use Rattle.ot_machine.specs.Rows.{is_exported}
@@ -25,21 +25,19 @@ each-preserved c =
     ap (λ xs. is_exported (theorem_at s.kernel e.th) (map (export_of s) xs)) (sym c.deref.ensures.value)
     ∙ sym c.is_exported.ensures ∙ c.if-is_exported.false in
     let pushed : c.push.new.self.items ≡ once ++ e ∷ [] = c.in_ok-push.ensures.items in
-    let is = subst (λ k. term_at k c.concl-concl.result ≡ (theorem_at k e.th).concl) c.kernel.ensures
-    c.concl-concl.ensures.concl in
     let more =
-    subst (λ k. (ps : List (Tm Name)) → length ps ≡ c.len.result → AreFirstPlaces k ps c.each.places
-    → AreFirstPlaces k (ps ++ term_at k c.concl-concl.result ∷ []) c.note_term.new.places)
-    c.kernel-in-each.ensures c.in_ok-note_term.ensures.more in
+    subst (λ k. (qs : List (Sequent Name)) → length qs ≡ c.len.result → AreFirstPlaces k qs c.each.places
+    → AreFirstPlaces k (qs ++ theorem_at k e.th ∷ []) c.note_theorem.new.places)
+    c.kernel-kernel.ensures c.in_ok-note_theorem.ensures.more in
     record {
       once =
           ap (λ xs. each_once (map (export_of s) xs) (map (export_of s) (drop (c.each.export-index + 1) es))) pushed
           ∙ sym (once-new s once es c.each.export-index e c.each-test.true c.export-item.is absent)
           ∙ c.each.invariant.once;
       inside = subst (All (IsExportIn s)) (sym pushed) (All-push (IsExportIn s) once e c.each.invariant.inside here);
-      placed = placed-more s.kernel once c.push.new.self.items e (term_at s.kernel c.concl-concl.result) c.len.result
-          c.each.places c.note_term.new.places pushed is (omega (arith, c.len.ensures, c.each.once.ok.0)) more
-          c.each.invariant.placed;
+      placed = placed-more s.kernel once c.push.new.self.items e c.len.result
+          (λ qs. AreFirstPlaces s.kernel qs c.each.places) (λ qs. AreFirstPlaces s.kernel qs c.note_theorem.new.places)
+          pushed (omega (arith, c.len.ensures, c.each.once.ok.0)) more c.each.invariant.placed;
     }
 
 pub returns-clause-lawful : goal.returns-clause-lawful

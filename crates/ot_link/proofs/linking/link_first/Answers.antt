@@ -9,7 +9,8 @@ pub link_file-requires-clause-ready : goal.link_file-requires-clause-ready
 link_file-requires-clause-ready g c =
     let s = c.args.session.now in
     empty-ready s _ c.requires.session c.requires.fresh c.fresh_law.ensures.written.0 c.new-interp.ensures.pairs
-    (c.new-interp.ensures.within (length s.kernel.names)) refl (c.new-places.ensures.none s.kernel)
+    (c.new-interp.ensures.within (length s.kernel.names)) refl c.none-candidates.ensures.theorems
+    (c.none-candidates.ensures.found s.kernel)
 
 pub returns-in_err-path-clause-lawful : goal.returns-in_err-path-clause-lawful
 returns-in_err-path-clause-lawful g c =
