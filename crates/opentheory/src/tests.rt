@@ -1,4 +1,5 @@
 //! What the program answers, over devices in memory.
+mod deep;
 mod devices;
 mod finding;
 mod hostile;

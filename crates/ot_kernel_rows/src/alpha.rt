@@ -2,6 +2,7 @@
 ghost use Rattle.std.specs.Prelude.{◌<◌, ◌≤◌, length, IfOk};
 
 use crate::building::{abs, doubled, type_fun, type_var, var};
+use crate::fresh::fresh_terms;
 use ot_alpha::alpha_eq;
 use ot_logic::NameId;
 use ot_term::{TermFault, TermId, Terms};
@@ -31,7 +32,7 @@ fn are_same(terms: &mut Terms, left: [NameId; 3], right: [NameId; 3]) -> Result<
 
 /// Each row has a table of its own. It is made here, so that no refusal has to drop it.
 fn compare(alloc: Global, left: [NameId; 3], right: [NameId; 3]) -> Result<bool, TableFault> {
-    let mut terms = Terms::new(alloc);
+    let mut terms = fresh_terms(alloc)?;
     are_same(&mut terms, left, right)
 }
 
@@ -92,7 +93,7 @@ fn compare_doubled(
     left: (NameId, NameId),
     right: (NameId, NameId),
 ) -> Result<(bool, bool), TermFault> {
-    let mut terms = Terms::new(alloc);
+    let mut terms = fresh_terms(alloc)?;
     are_same_doubled(&mut terms, left, right)
 }
 

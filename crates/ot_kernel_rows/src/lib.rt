@@ -10,7 +10,11 @@ mod building;
 #[cfg(test)]
 mod folder;
 #[cfg(test)]
+mod fresh;
+#[cfg(test)]
 mod io;
+#[cfg(test)]
+mod limits;
 #[cfg(test)]
 mod link;
 #[cfg(test)]

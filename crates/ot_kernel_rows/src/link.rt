@@ -6,6 +6,7 @@ ghost use Rattle.ot_link.specs.Answers.{AreWithin};
 mod tables;
 
 use crate::folder::{Entry, files_of};
+use crate::fresh::fresh_session;
 use ot_blocks::StructureFault;
 use ot_io::MemFiles;
 use ot_link::{LinkFault, link};
@@ -95,7 +96,7 @@ fn ends_over(
 ) -> Result<bool, Fail>
     requires limits { AreWithin limits.now }
 {
-    let mut session = Session::new(alloc)?;
+    let mut session = fresh_session(alloc)?;
     let result = link(alloc, &mut session, files, input, "packages", limits);
     Ok(end_of(&result, &session) == end && is_at(&result, path))
 }
@@ -125,6 +126,39 @@ fn stops(rt: HostRuntime) -> Result<(), Fail> {
     assert!(rt; ends(alloc, &GONE, &limits, &[], End::NoFile, "gone.art")?);
     // The second call opens or reads the theory file.
     assert!(rt; ends(alloc, &GONE, &limits, &[2], End::ReadFault, "w.thy")?);
+    Ok(())
+}
+
+/// The file in use at a call, where each is opened, read by nine bytes a call, and once more at its end.
+fn in_use(entries: &[Entry], call: u64) -> Option<&'static str> {
+    let mut left = call;
+    for (path, start, end) in entries {
+        let bytes = start.len().saturating_add(end.len());
+        let calls = bytes.div_ceil(9).saturating_add(2) as u64;
+        if left <= calls {
+            return Some(path);
+        }
+        left = left.saturating_sub(calls);
+    }
+    None
+}
+
+/// Each call of a run over a theory file and its articles fails in turn.
+#[test]
+fn failing_files(rt: HostRuntime) -> Result<(), Fail> {
+    let alloc = rt.alloc();
+    let limits = Limits::standard();
+    for call in 1..1000 {
+        let Some(path) = in_use(&IMPORTS, call) else {
+            assert!(rt; ends(alloc, &IMPORTS, &limits, &[call], End::Ended(1, 0, 0), "")?);
+            return Ok(());
+        };
+        assert!(rt;
+            ends(alloc, &IMPORTS, &limits, &[call], End::ReadFault, path)?,
+            "call {call}"
+        );
+    }
+    assert!(rt; false, "no run without a failing call");
     Ok(())
 }
 

@@ -2,6 +2,7 @@
 ghost use Rattle.std.specs.Prelude.{◌≡◌, ◌<◌, ◌≤◌, length, IfOk};
 
 use crate::building::key;
+use crate::fresh::fresh_kernel;
 use ot_kernel::Kernel;
 use ot_logic::{Memory, Name, NameId, Tm, Ty};
 use ot_match::{Match, find_match};
@@ -88,7 +89,7 @@ fn matches(
 
 #[test]
 fn variables_and_binders(rt: HostRuntime) -> Result<(), Fail> {
-    let mut kernel = Kernel::new(rt.alloc())?;
+    let mut kernel = fresh_kernel(rt.alloc())?;
     check_places(&rt, rt.alloc(), &mut kernel)
 }
 
@@ -200,7 +201,7 @@ fn function_type(kernel: &mut Kernel, ty: TypeId) -> Result<TypeId, Fail>
 
 #[test]
 fn shared_parts(rt: HostRuntime) -> Result<(), Fail> {
-    let mut kernel = Kernel::new(rt.alloc())?;
+    let mut kernel = fresh_kernel(rt.alloc())?;
     check_shared(&rt, rt.alloc(), &mut kernel)
 }
 

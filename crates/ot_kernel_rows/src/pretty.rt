@@ -2,6 +2,7 @@
 ghost use Rattle.std.specs.Prelude.{◌≡◌, ◌<◌, length, slice_index, IfOk, IfSome};
 ghost use Rattle.std.specs.List.{All};
 
+use crate::fresh::fresh_kernel;
 use ot_kernel::{Kernel, ThmId};
 use ot_logic::{Name, NameId};
 use ot_parse::{Notation, WordKind};
@@ -127,7 +128,7 @@ const TEXTS: &[u8] = b"|- ({Data.Bool.T : bool} = ((\\x0 : bool . x0) = (\\x0 : 
 
 #[test]
 fn texts(rt: HostRuntime) -> Result<(), Fail> {
-    let mut kernel = Kernel::new(rt.alloc())?;
+    let mut kernel = fresh_kernel(rt.alloc())?;
     let mut out = Vec::new(rt.alloc());
     check_texts(&rt, rt.alloc(), &mut kernel, &mut out)
 }

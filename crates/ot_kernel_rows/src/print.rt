@@ -3,6 +3,7 @@
 // tests.
 ghost use Rattle.std.specs.Prelude.{◌≡◌, length};
 
+use crate::fresh::fresh_kernel;
 use ot_args::Sections;
 use ot_kernel::Kernel;
 use ot_logic::NameId;
@@ -20,7 +21,7 @@ const ALL: Sections = Sections {
 
 #[test]
 fn texts(rt: HostRuntime) -> Result<(), Fail> {
-    let mut kernel = Kernel::new(rt.alloc())?;
+    let mut kernel = fresh_kernel(rt.alloc())?;
     check_texts(&rt, rt.alloc(), &mut kernel)
 }
 

@@ -4,6 +4,7 @@ ghost use Rattle.ot_subst.specs.Substitution.{IsSubstOf};
 ghost use Rattle.ot_subst.specs.Walk.{NamesBelow};
 
 use crate::building::key;
+use crate::fresh::fresh_terms;
 use ot_logic::{Memory, NameId, Names};
 use ot_subst::{Results, Subst, SubstFault, apply, beta};
 use ot_term::{Steps, TermId, TermNode, Terms};
@@ -145,21 +146,21 @@ fn check_type(
 /// them.
 fn named(rt: &impl Abort, alloc: Global) -> Result<(), Fail> {
     let mut names = Names::new(alloc)?;
-    let mut terms = Terms::new(alloc);
+    let mut terms = fresh_terms(alloc)?;
     let mut results = Results::new(alloc);
     check_name(rt, alloc, &mut terms, &mut names, &mut results)
 }
 
 fn contracted(rt: &impl Abort, alloc: Global) -> Result<(), Fail> {
     let mut names = Names::new(alloc)?;
-    let mut terms = Terms::new(alloc);
+    let mut terms = fresh_terms(alloc)?;
     let mut results = Results::new(alloc);
     check_beta(rt, alloc, &mut terms, &mut names, &mut results)
 }
 
 fn typed(rt: &impl Abort, alloc: Global) -> Result<(), Fail> {
     let mut names = Names::new(alloc)?;
-    let mut terms = Terms::new(alloc);
+    let mut terms = fresh_terms(alloc)?;
     let mut results = Results::new(alloc);
     check_type(rt, alloc, &mut terms, &mut names, &mut results)
 }

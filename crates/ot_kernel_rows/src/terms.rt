@@ -4,6 +4,7 @@ ghost use Rattle.std.specs.Prelude.{◌<◌, ◌≤◌, length, IfOk};
 use crate::building::{
     abs, app, compare, constant, doubled, key, type_bool, type_fun, type_var, var,
 };
+use crate::fresh::fresh_terms;
 use ot_logic::NameId;
 use ot_term::{Symbol, SymbolKind, TermFault, TermId, Terms, VarKey};
 use ot_type::{TableFault, TypeId};
@@ -262,7 +263,7 @@ fn check_table(rt: &impl Abort, alloc: Global, terms: &mut Terms) -> Result<(), 
 
 #[test]
 fn equal_numbers_for_equal_terms(rt: HostRuntime) -> Result<(), Fail> {
-    let mut terms = Terms::new(rt.alloc());
+    let mut terms = fresh_terms(rt.alloc())?;
     check_table(&rt, rt.alloc(), &mut terms)
 }
 
@@ -304,7 +305,7 @@ fn check_shared(rt: &impl Abort, alloc: Global, terms: &mut Terms) -> Result<(),
 
 #[test]
 fn shared_terms(rt: HostRuntime) -> Result<(), Fail> {
-    let mut terms = Terms::new(rt.alloc());
+    let mut terms = fresh_terms(rt.alloc())?;
     check_shared(&rt, rt.alloc(), &mut terms)
 }
 
@@ -354,8 +355,8 @@ fn check_deep(
 
 #[test]
 fn deep_terms(rt: HostRuntime) -> Result<(), Fail> {
-    let mut terms = Terms::new(rt.alloc());
-    let mut other = Terms::new(rt.alloc());
+    let mut terms = fresh_terms(rt.alloc())?;
+    let mut other = fresh_terms(rt.alloc())?;
     check_deep(&rt, rt.alloc(), &mut terms, &mut other)
 }
 
@@ -373,7 +374,7 @@ fn check_refused(rt: &impl Abort, terms: &mut Terms, other: &mut Terms) -> Resul
 
 #[test]
 fn refused_terms(rt: HostRuntime) -> Result<(), Fail> {
-    let mut terms = Terms::new(rt.alloc());
-    let mut other = Terms::new(rt.alloc());
+    let mut terms = fresh_terms(rt.alloc())?;
+    let mut other = fresh_terms(rt.alloc())?;
     check_refused(&rt, &mut terms, &mut other)
 }

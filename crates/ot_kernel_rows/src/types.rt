@@ -3,6 +3,7 @@ ghost use Rattle.std.specs.Prelude.{◌<◌, ◌≤◌, length, IfOk};
 ghost use Rattle.std.specs.List.{All};
 
 use crate::building::compare;
+use crate::fresh::fresh_types;
 use ot_logic::{Memory, NameId};
 use ot_type::{TableFault, TypeId, TypeNode, TypeSubst, Types};
 use std::alloc::Global;
@@ -186,7 +187,7 @@ fn check_equal(rt: &impl Abort, alloc: Global, types: &mut Types) -> Result<(), 
 
 #[test]
 fn equal_numbers_for_equal_types(rt: HostRuntime) -> Result<(), Fail> {
-    let mut types = Types::new(rt.alloc());
+    let mut types = fresh_types(rt.alloc())?;
     check_equal(&rt, rt.alloc(), &mut types)
 }
 
@@ -253,14 +254,14 @@ fn check_deep(
 #[test]
 fn shared_types(rt: HostRuntime) -> Result<(), Fail> {
     let alloc = rt.alloc();
-    let mut types = Types::new(alloc);
+    let mut types = fresh_types(alloc)?;
     check_shared(&rt, alloc, &mut types)
 }
 
 #[test]
 fn deep_types(rt: HostRuntime) -> Result<(), Fail> {
     let alloc = rt.alloc();
-    let mut types = Types::new(alloc);
-    let mut other = Types::new(alloc);
+    let mut types = fresh_types(alloc)?;
+    let mut other = fresh_types(alloc)?;
     check_deep(&rt, alloc, &mut types, &mut other)
 }

@@ -42,7 +42,7 @@ pub struct Outside {
 }
 
 /// The most bytes that a sink in memory takes.
-const ROOM: usize = 65536;
+const ROOM: usize = 262_144;
 
 /// Large pieces, and no call that fails.
 pub const FINE: Outside = Outside {
