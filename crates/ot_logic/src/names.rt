@@ -57,6 +57,8 @@ impl NameId {
 #[derive(Drop)]
 pub struct Names {
     entries: IndexSet<Name>,
+    // Where the search for a new name goes on.
+    next: u64,
 }
 
 impl Model for Names {
@@ -83,7 +85,7 @@ impl Names {
         entries.insert(Name::of_text(alloc, b"=")?)?;
         entries.insert(Name::of_text(alloc, b"a")?)?;
         entries.insert(Name::of_text(alloc, b"r")?)?;
-        Ok(Names { entries })
+        Ok(Names { entries, next: 0 })
     }
 
     /// The number of a name. A new name takes the next number; after running out of memory the table is as before.
@@ -100,8 +102,8 @@ impl Names {
         Ok(NameId(index as u32))
     }
 
-    /// The number of a name that the table did not have. Which name it is, is open. After running out of memory the table may
-    /// hold more names.
+    /// The number of a name that the table did not have. Which name it is, is open. Names that were tried once are not tried
+    /// again. After running out of memory the table may hold more names.
     pub fn add_new(&mut self) -> Result<NameId, Memory>
         ensures ok { IfOk result (λ id. (length self.old ≤ id) × (id < length self.new)) }
         ensures extends { Extends self.old self.new }
@@ -109,14 +111,15 @@ impl Names {
     {
         let alloc = *self.entries.allocator();
         let count = self.count();
-        let mut number = count as u64;
+        let mut number = self.next;
         'numbers: loop {
             let text = format!(in alloc; "x{number}")?;
             let id = self.intern(Name::of_text(alloc, text.as_bytes())?)?;
+            number = Memory::next(number)?;
             if id.0 as usize >= count {
+                self.next = number;
                 return Ok(id);
             }
-            number = Memory::next(number)?;
         }
     }
 
