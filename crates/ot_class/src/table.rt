@@ -160,8 +160,42 @@ impl Classes {
     }
 
     /// The list of a function with the variables that an argument adds, and which holes of the argument the function
-    /// has. What comes of two lists is remembered.
+    /// has. Equal lists, and a list and none, are joined at once.
     fn join(&mut self, f: ListId, x: ListId) -> Result<Joined, Memory>
+        requires f { f < length self.old.lists }
+        requires x { x < length self.old.lists }
+        ensures list { IfOk result (λ j. slice_get self.new.lists j.list
+            ≡ Some (joined numbers (list_at self.old.lists f) (list_at self.old.lists x))) }
+        ensures maps { IfOk result (λ j. slice_get self.new.maps j.map
+            ≡ Some (map (place numbers (list_at self.old.lists f)) (list_at self.old.lists x))) }
+        ensures shapes { self.new.shapes ≡ self.old.shapes }
+        ensures grows { Grows self.old self.new }
+        ensures once { AreOnce self.new }
+    {
+        if f == x || self.lists.len(f) == 0 || self.lists.len(x) == 0 {
+            return self.join_lists(f, x);
+        }
+        self.join_remembered(f, x)
+    }
+
+    /// Joins two lists.
+    fn join_lists(&mut self, f: ListId, x: ListId) -> Result<Joined, Memory>
+        requires f { f < length self.old.lists }
+        requires x { x < length self.old.lists }
+        ensures list { IfOk result (λ j. slice_get self.new.lists j.list
+            ≡ Some (joined numbers (list_at self.old.lists f) (list_at self.old.lists x))) }
+        ensures maps { IfOk result (λ j. slice_get self.new.maps j.map
+            ≡ Some (map (place numbers (list_at self.old.lists f)) (list_at self.old.lists x))) }
+        ensures shapes { self.new.shapes ≡ self.old.shapes }
+        ensures grows { Grows self.old self.new }
+        ensures once { AreOnce self.new }
+    {
+        let joined = join(&mut self.lists, &mut self.maps, f, x)?;
+        Ok(joined)
+    }
+
+    /// Joins two lists. What comes of them is remembered.
+    fn join_remembered(&mut self, f: ListId, x: ListId) -> Result<Joined, Memory>
         requires f { f < length self.old.lists }
         requires x { x < length self.old.lists }
         ensures list { IfOk result (λ j. slice_get self.new.lists j.list

@@ -9,6 +9,9 @@ pub mod SequenceLemmas
 pub mod Cutting
 pub mod Lifting
 pub mod Pushing
+pub mod Runs
 pub mod MapLemmas
+pub mod PieceLemmas
 pub mod JoinLemmas
+pub mod JoinLifting
 pub mod Apart

@@ -1,5 +1,5 @@
 -- Parts of a sequence that are still to be walked.
-use Rattle.std.proofs.Common.{◌≡◌, ℕ, ◌+◌, ◌-◌, ◌*◌, ◌<◌, List, [], ◌∷◌, ◌++◌, length, Some, None, sym, ap, subst}
+use Rattle.std.proofs.Common.{◌≡◌, ℕ, suc, ◌+◌, ◌-◌, ◌*◌, ◌<◌, List, [], ◌∷◌, ◌++◌, length, Some, None, sym, ap, subst}
 use Rattle.std.proofs.Common.{◌∙◌, inl, inr, ◌⊎◌, arith, append_assoc, length-append, reverse}
 use Rattle.std.proofs.Common.{map, slice_get, ◌≢◌}
 use Rattle.std.proofs.lemmas.List.{append-nil, map-append}
@@ -44,24 +44,25 @@ module _ (t : SequenceTable) where
   abbrev pub opened : List Part → ℕ → ℕ → ℕ → List Part
   opened ps before x behind = ((ps ++ Tree before ∷ []) ++ One x ∷ []) ++ Tree behind ∷ []
 
-  module _ (ps : List Part) (tree before x behind : ℕ)
-      (cut : sequence_at t tree ≡ sequence_at t before ++ x ∷ sequence_at t behind) where
-    pub spread-opened : spread t (opened ps before x behind) ≡ spread t ps ++ sequence_at t tree
-    spread-opened =
+  module _ (ps : List Part) (before x behind : ℕ) where
+    pub spread-opened : (tree : ℕ) → sequence_at t tree ≡ sequence_at t before ++ x ∷ sequence_at t behind
+        → spread t (opened ps before x behind) ≡ spread t ps ++ sequence_at t tree
+    spread-opened tree cut =
         let xs = sequence_at t before in
         let ys = sequence_at t behind in
         spread-push ((ps ++ Tree before ∷ []) ++ One x ∷ []) (Tree behind)
-        ∙ ap (λ l. l ++ ys) (spread-push (ps ++ Tree before ∷ []) (One x) ∙ ap (λ l. l ++ x ∷ []) (spread-push ps (Tree before)))
+        ∙ ap (λ l. l ++ ys)
+        (spread-push (ps ++ Tree before ∷ []) (One x) ∙ ap (λ l. l ++ x ∷ []) (spread-push ps (Tree before)))
         ∙ append_assoc (spread t ps ++ xs) (x ∷ []) ys ∙ append_assoc (spread t ps) xs (x ∷ ys)
         ∙ ap (λ l. spread t ps ++ l) (sym cut)
 
-    pub steps-opened : steps t (opened ps before x behind) < steps t ps + (3 * length (sequence_at t tree) + 1)
-    steps-opened =
+    pub steps-opened : (n : ℕ) → n ≡ length (sequence_at t before) + suc (length (sequence_at t behind))
+        → steps t (opened ps before x behind) < steps t ps + (3 * n + 1)
+    steps-opened n e =
         let one = steps-push ((ps ++ Tree before ∷ []) ++ One x ∷ []) (Tree behind) in
         let two = steps-push (ps ++ Tree before ∷ []) (One x) in
         let three = steps-push ps (Tree before) in
-        let n = ap length cut ∙ length-append (sequence_at t before) (x ∷ sequence_at t behind) in
-        omega (arith, one, two, three, n)
+        omega (arith, one, two, three, e)
 
     pub parts-opened : ArePartsOf t ps → before < length t.lists → behind < length t.lists
         → ArePartsOf t (opened ps before x behind)

@@ -8,3 +8,5 @@ pub mod Sequences
 pub mod Frames
 pub mod Places
 pub mod Parts
+pub mod Pieces
+pub mod NodeHash

@@ -6,8 +6,10 @@ ghost use Rattle.ot_logic.specs.Table.{Extends, IsInjective};
 ghost use Rattle.ot_logic.specs.Trees.{Variable};
 ghost use Rattle.ot_logic.specs.NamedTerms.{place};
 ghost use Rattle.ot_logic.specs.Naming.{numbers};
-ghost use Rattle.ot_shape.specs.Shape.{without};
+ghost use Rattle.ot_shape.specs.Shape.{joined, without};
 
+use crate::joining::Joined;
+use crate::map::Maps;
 use crate::sequence::{ListId, Sequences};
 use ot_logic::{Memory, NameId};
 use ot_type::TypeId;
@@ -79,30 +81,6 @@ impl Lists {
         Ok(self.table.append(front, single)?)
     }
 
-    /// Whether two lists share no variable, as far as the bounds of their numbers tell.
-    pub fn are_apart(&self, f: ListId, x: ListId) -> bool
-        requires f { f < length self.now }
-        requires x { x < length self.now }
-        ensures apart { result ≡ true
-            → (v : Variable ℕ) → IsMember v (list_at self.now f) → IsMember v (list_at self.now x) → ⊥ }
-    {
-        self.table.are_apart(f, x)
-    }
-
-    /// One list and another behind it, with which it shares no variable.
-    pub fn append(&mut self, f: ListId, x: ListId) -> Result<ListId, Memory>
-        requires f { f < length self.old }
-        requires x { x < length self.old }
-        requires apart { (v : Variable ℕ) → IsMember v (list_at self.old f) → IsMember v (list_at self.old x) → ⊥ }
-        ensures ok { IfOk result (λ id. slice_get self.new id ≡ Some (list_at self.old f ++ list_at self.old x)) }
-        ensures extends { Extends self.old self.new }
-        ensures once { IsInjective self.new }
-    {
-        // The table is sound.
-        let _count = self.table.len(f);
-        Ok(self.table.append(f, x)?)
-    }
-
     /// How many variables a list has.
     pub fn len(&self, id: ListId) -> u32
         requires { id < length self.now }
@@ -132,6 +110,26 @@ impl Lists {
         ensures { IfOk result (λ keys. map variable_of (reverse keys.items) ≡ list_at self.now id) }
     {
         self.table.members(id)
+    }
+
+    /// Joins the list of a function with that of its argument.
+    pub(crate) fn join(&mut self, maps: &mut Maps, f: ListId, x: ListId) -> Result<Joined, Memory>
+        requires f { f < length self.old }
+        requires x { x < length self.old }
+        requires once { IsInjective maps.old }
+        ensures list { IfOk result (λ j. slice_get self.new j.list
+            ≡ Some (joined numbers (list_at self.old f) (list_at self.old x))) }
+        ensures places { IfOk result (λ j. slice_get maps.new j.map
+            ≡ Some (map (place numbers (list_at self.old f)) (list_at self.old x))) }
+        ensures extends { Extends self.old self.new }
+        ensures stays_once { IsInjective self.new }
+        ensures maps_extend { Extends maps.old maps.new }
+        ensures maps_stay_once { IsInjective maps.new }
+    {
+        // The table is sound.
+        let _count = self.table.len(f);
+        let joined = self.table.join(maps, f, x)?;
+        Ok(joined)
     }
 
     /// The list without a variable.

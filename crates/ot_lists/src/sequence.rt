@@ -9,8 +9,11 @@ ghost use Rattle.std.specs.Prelude.{IfOk};
 ghost use Rattle.ot_logic.specs.Lists.{IsMember, AreDistinct};
 ghost use Rattle.ot_logic.specs.Table.{Extends};
 ghost use Rattle.ot_lists.specs.Ranks.{rank, IsTop};
+ghost use Rattle.ot_lists.specs.NodeHash.{sequence_writes, sequence_writes-alike};
 
 mod append;
+mod join;
+mod pieces;
 mod remove;
 mod walk;
 
@@ -18,6 +21,7 @@ use crate::list::Key;
 use indexmap::{IndexMap, IndexSet};
 use ot_logic::Memory;
 use std::alloc::Global;
+use std::hash::{Hash, Hasher};
 use std::marker::Model;
 
 /// The number of a list.
@@ -51,10 +55,27 @@ impl ListId {
 }
 
 /// The empty sequence, or what stands before the number of the highest rank, that number, and what stands behind it.
-#[derive(Clone, Copy, PartialEq, Eq, Hash)]
+#[derive(Clone, Copy, PartialEq, Eq)]
 enum SequenceNode {
     Empty,
     Cut(ListId, u32, ListId),
+}
+
+// A node is one write: a table hashes it at each call.
+impl Hash for SequenceNode {
+    ghost hash_input = { sequence_writes };
+
+    ghost respects_eq = { sequence_writes-alike };
+
+    fn hash<H: Hasher>(&self, state: &mut H) {
+        match *self {
+            SequenceNode::Empty => state.write_u8(0),
+            SequenceNode::Cut(before, x, behind) => {
+                let ends = x as u64 + behind.0 as u64 * (1 << 32);
+                state.write_u128(before.0 as u128 + ends as u128 * (1 << 32));
+            }
+        }
+    }
 }
 
 /// How many numbers a sequence has, and bounds of these.

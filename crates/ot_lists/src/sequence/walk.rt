@@ -9,7 +9,7 @@ use ot_logic::Memory;
 
 /// A part of a sequence that is still to be walked.
 #[derive(Clone, Copy)]
-enum Part {
+pub(crate) enum Part {
     Tree(ListId),
     One(u32),
 }

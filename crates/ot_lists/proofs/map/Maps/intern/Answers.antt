@@ -1,14 +1,11 @@
-use Rattle.ot_lists.specs.Maps.{map_of, IsBelow, Describes}
-use Rattle.ot_lists.proofs.MapLemmas.{node_eq, laws}
-use Rattle.ot_type.proofs.Entering.{entered, Entered}
+use Rattle.ot_lists.proofs.MapLemmas.{Put, put}
 use Rattle.ot_lists.proofs.map.Maps.intern.Goals as goal
 
 -- what the insert leaves
-left : (c : goal.In_ok-index) → Entered map_of IsBelow Describes node_eq c.args.self.now c.args.node
-    c.insert_full.new.self.entries c.in_ok-index.index
-left c = entered map_of IsBelow Describes node_eq laws c.self.inside.nodes c.args.self.now c.self.view_is
-    c.self.invariant c.args.node tt c.requires tt
-    c.insert_full.new.self.entries c.in_ok-index.ensures.entries c.in_ok-index.index c.in_ok-index.ensures.index
+left : (c : goal.In_ok-index) → Put c.args.self.now c.args.node c.insert_full.new.self.entries c.in_ok-index.index
+left c = put c.self.inside.nodes c.args.self.now c.self.view_is c.self.invariant c.args.node c.requires.below
+    c.requires.longest c.insert_full.new.self.entries c.in_ok-index.ensures.entries c.in_ok-index.index
+    c.in_ok-index.ensures.index
 
 pub invariant_of-self-2 : goal.invariant_of-self-2
 invariant_of-self-2 c = (left c).sound

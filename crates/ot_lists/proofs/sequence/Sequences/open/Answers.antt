@@ -1,4 +1,4 @@
-use Rattle.std.proofs.Common.{◌≡◌, ◌∷◌, [], ◌++◌, length, ap, subst, ◌∙◌}
+use Rattle.std.proofs.Common.{◌≡◌, ◌∷◌, [], ◌++◌, length, length-append, ap, subst, ◌∙◌}
 use Rattle.ot_lists.specs.SequenceTable.{sequence_at}
 use Rattle.ot_lists.specs.Sequences.{sequence_of, IsBelow}
 use Rattle.ot_lists.specs.Parts.{spread}
@@ -22,15 +22,15 @@ cut c = c.node.ensures.is ∙ ap (sequence_of c.args.self.now.lists) c.in-Cut.is
 pub returns-in_ok-push-3-clause-spread : goal.returns-in_ok-push-3-clause-spread
 returns-in_ok-push-3-clause-spread c =
     let d = (goal.at.returns-in_ok-push-3-clause-spread c).In_ok-push-3 in
-    ap (spread c.args.self.now) (items d) ∙ spread-opened c.args.self.now _ c.args.tree _ _ _ (cut d)
+    ap (spread c.args.self.now) (items d) ∙ spread-opened c.args.self.now _ _ _ _ c.args.tree (cut d)
 
 pub returns-in_ok-push-3-clause-steps : goal.returns-in_ok-push-3-clause-steps
 returns-in_ok-push-3-clause-steps c =
     let d = (goal.at.returns-in_ok-push-3-clause-steps c).In_ok-push-3 in
-    rw (items d) (steps-opened c.args.self.now _ c.args.tree _ _ _ (cut d))
+    rw (items d) (steps-opened c.args.self.now _ _ _ _ _ (ap length (cut d) ∙ length-append _ _))
 
 pub returns-in_ok-push-3-clause-parts : goal.returns-in_ok-push-3-clause-parts
 returns-in_ok-push-3-clause-parts c =
     let d = (goal.at.returns-in_ok-push-3-clause-parts c).In_ok-push-3 in
     let below = subst (IsBelow (length c.args.self.now.lists)) c.in-Cut.is c.node.ensures.below in
-    rw (items d) (parts-opened c.args.self.now _ c.args.tree _ _ _ (cut d) c.requires.parts below.0 below.1)
+    rw (items d) (parts-opened c.args.self.now _ _ _ _ c.requires.parts below.0 below.1)

@@ -7,8 +7,8 @@ use Rattle.ot_lists.specs.Variables.{list_at}
 use Rattle.ot_class.specs.Class.{ClassTable}
 use Rattle.ot_class.specs.Joins.{IsJoin}
 use Rattle.ot_class.proofs.Growing.{Stays, stays-grown, stays-forgotten, stays-joined}
-use Rattle.ot_class.proofs.table.Classes.join.Goals as goal
-use Rattle.ot_class.proofs.table.Classes.join.Goals.{In-Some, In_err-joined, In_err-insert, In_ok-insert}
+use Rattle.ot_class.proofs.table.Classes.join_remembered.Goals as goal
+use Rattle.ot_class.proofs.table.Classes.join_remembered.Goals.{In-Some, In_err-joined, In_err-insert, In_ok-insert}
 
 -- what was remembered
 known : (c : In-Some) → IsJoin c.self.inside.lists c.self.inside.maps c.args.f c.args.x c.in-Some.joined.now
