@@ -2,6 +2,8 @@
 pub mod ItemLemmas
 pub mod NodeLemmas
 pub mod MapLemmas
+pub mod ListLemmas
+pub mod PlaceLemmas
 pub mod TypingLemmas
 pub mod ShapeLemmas
 pub mod InstanceLemmas

@@ -4,4 +4,6 @@ pub mod Below
 pub mod Table
 pub mod Shapes
 pub mod Changing
+pub mod Lists
+pub mod Places
 pub mod Typing

@@ -41,6 +41,11 @@ impl Model for TypeId {
     ghost inverse = { λ n. record { 0 = n } };
 }
 
+impl TypeId {
+    /// The number of no type: 0 is that of a name.
+    pub(crate) const NONE: TypeId = TypeId(0);
+}
+
 /// The number of a nameless term in its table.
 #[derive(Clone, Copy, PartialEq, Eq, PartialOrd, Ord, Hash)]
 pub struct TermId(pub(crate) usize);

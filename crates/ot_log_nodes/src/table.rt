@@ -11,6 +11,8 @@ ghost use Rattle.ot_log_nodes.specs.Below.{is_name_node, is_type_node, is_term_n
 
 mod change;
 mod instance;
+mod lists;
+mod places;
 mod shapes;
 mod typing;
 

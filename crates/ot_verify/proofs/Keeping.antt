@@ -21,8 +21,7 @@ use Rattle.ot_log_format.specs.State.{makes_sequent, makes_assumption, makes_def
 use Rattle.ot_log_format.proofs.StepSound.{proposition-is}
 use Rattle.ot_log_nodes.specs.Items.{Item, HasTerm, term_at}
 use Rattle.ot_log_nodes.specs.Typing.{AreTypings}
-use Rattle.ot_log_nodes.specs.declared.table.typing.Scope.{Scope}
-use Rattle.ot_log_nodes.specs.declared.table.typing.Typed.{Typed}
+use Rattle.ot_log_nodes.specs.declared.table.typing.Entries.{Entries}
 use Rattle.ot_log_nodes.proofs.ItemLemmas.{term-stays}
 use Rattle.ot_log_rules.specs.Limits.{AreWellTyped}
 use Rattle.ot_log_rules.specs.Statements.{sequent_at, terms_at, HasStatement, Gives}
@@ -74,7 +73,7 @@ module _ (l : Inside) (k : IsKept l.nodes l) (now : LogView) (is : view_of l.nod
           (state_of l.nodes (held_of l)).definitions)
           (sym (sequent-stays l.nodes us e q here.0)) here.1)
 
-      pub statement-kept : (es : List (Scope × Typed)) (xs : List Statement) → AreTypings us es
+      pub statement-kept : (es : Entries) (xs : List Statement) → AreTypings us es
           → xs ≡ l.sequents.items ++ q ∷ []
           → IsWhole us (record (held_of l) { sequents = xs }) es l.signature l.assumptions l.results
       statement-kept es xs t p =
@@ -109,7 +108,7 @@ module _ (l : Inside) (k : IsKept l.nodes l) (now : LogView) (is : view_of l.nod
           ∙ ap (λ zs. Ok (state_of us (record (held_of l) { sequents = zs }))) (sym x))
 
 -- ---- the same lists, and what is kept beside them anew
-pub whole-same : (l : Inside) (us : List Item) (h : Held) (es : List (Scope × Typed)) (s : Signature)
+pub whole-same : (l : Inside) (us : List Item) (h : Held) (es : Entries) (s : Signature)
     (al ql : Kept)
     → h ≡ held_of l → IsKept us l → AreTypings us es → IsSignature us (map (accepted_at us) l.definitions.items) s
     → AreKeyed al
@@ -182,7 +181,7 @@ module _ (l : Inside) (k : IsKept l.nodes l) (now : LogView) (is : view_of l.nod
       module _ (al : Kept) (xs : List Statement) (t : b ≡ true) (x : xs ≡ l.sequents.items ++ q ∷ [])
           (once : map (sequent_at us) al.statements.items
           ≡ kept_once names (map (sequent_at us) l.assumptions.statements.items) (sequent_at us q)) where
-        pub assumption-kept : (es : List (Scope × Typed)) → AreTypings us es → AreKeyed al
+        pub assumption-kept : (es : Entries) → AreTypings us es → AreKeyed al
             → All (HasStatement us) al.statements.items
             → IsWhole us (record (held_of l) { sequents = xs; assumptions = al.statements.items }) es l.signature al
             l.results
@@ -281,7 +280,7 @@ module _ (l : Inside) (k : IsKept l.nodes l) (now : LogView) (is : view_of l.nod
       module _ (t : b ≡ true) (qs : List Statement)
           (same' : map (sequent_at us) qs ≡ map (sequent_at us) a.theorems.items) (xs : List Statement)
           (ds : List Accepted) (x : xs ≡ l.sequents.items ++ qs) (y : ds ≡ l.definitions.items ++ a ∷ []) where
-        pub definition-kept : (es : List (Scope × Typed)) (s : Signature) → AreTypings us es
+        pub definition-kept : (es : Entries) (s : Signature) → AreTypings us es
             → All (HasStatement us) qs
             → IsSignature us (map (accepted_at us) l.definitions.items ++ accepted_at us a ∷ []) s
             → IsWhole us (record (held_of l) { sequents = xs; definitions = ds }) es s l.assumptions l.results

@@ -18,8 +18,7 @@ use Rattle.ot_log_format.specs.State.{LogState, nothing_made, makes_type, makes_
 use Rattle.ot_log_format.proofs.StateSound.{nothing-sound}
 use Rattle.ot_log_nodes.specs.Items.{Item, IsName, HasType, HasTerm, type_at, term_at}
 use Rattle.ot_log_nodes.specs.Typing.{AreTypings}
-use Rattle.ot_log_nodes.specs.declared.table.typing.Scope.{Scope}
-use Rattle.ot_log_nodes.specs.declared.table.typing.Typed.{Typed}
+use Rattle.ot_log_nodes.specs.declared.table.typing.Entries.{Entries}
 use Rattle.ot_log_nodes.proofs.TypingLemmas.{typings-grown}
 use Rattle.ot_log_nodes.proofs.ItemLemmas.{type-stays, term-stays, still-type, still-term}
 use Rattle.ot_log_rules.specs.Statements.{sequent_at, HasStatement, Gives}
@@ -202,7 +201,7 @@ log-kept l us e k = record {
 }
 
 -- with further typings
-pub with-typings : (l : Inside) (us : List Item) (es : List (Scope × Typed)) → IsKept us l → AreTypings us es
+pub with-typings : (l : Inside) (us : List Item) (es : Entries) → IsKept us l → AreTypings us es
     → IsWhole us (held_of l) es l.signature l.assumptions l.results
 with-typings l us es k t = record {
   log = k.log;
@@ -297,7 +296,7 @@ theorem-now l k i q h =
 abbrev pub nothing_held : Held
 nothing_held = record { types = []; terms = []; sequents = []; assumptions = []; definitions = []; results = [] }
 
-pub nothing-whole : (ts : List Item) (h : Held) (es : List (Scope × Typed)) (s : Signature) (al ql : Kept)
+pub nothing-whole : (ts : List Item) (h : Held) (es : Entries) (s : Signature) (al ql : Kept)
     → h ≡ nothing_held → AreTypings ts es → IsSignature ts [] s → AreKeyed al → AreKeyed ql → IsWhole ts h es s al ql
 nothing-whole ts h es s al ql e t g a q = record {
   log = subst (IsLog ts) (sym e) (record {

@@ -14,8 +14,7 @@ use Rattle.ot_log_rules.specs.Keeping.{AreKeyed}
 use Rattle.ot_log_rules.specs.declared.signature.Signature.{Signature}
 use Rattle.ot_log_rules.specs.declared.kept.Kept.{Kept}
 use Rattle.ot_log_nodes.specs.Typing.{AreTypings}
-use Rattle.ot_log_nodes.specs.declared.table.typing.Scope.{Scope}
-use Rattle.ot_log_nodes.specs.declared.table.typing.Typed.{Typed}
+use Rattle.ot_log_nodes.specs.declared.table.typing.Entries.{Entries}
 use Rattle.ot_log_rules.specs.declared.statement.Statement.{Statement}
 use Rattle.ot_log_rules.specs.declared.statement.StepFault.{StepFault}
 use Rattle.ot_log_rules.specs.declared.statement.StepFault.TheVariants as step
@@ -79,7 +78,7 @@ pub record IsLog (ts : List Item) (h : Held) : Type 0 where
   pub sound : IsSound (state_of ts h)
 
 -- and what is kept beside: types of terms, the symbols of the definitions, keys of assumptions and results
-pub record IsWhole (ts : List Item) (h : Held) (es : List (Scope × Typed)) (s : Signature)
+pub record IsWhole (ts : List Item) (h : Held) (es : Entries) (s : Signature)
     (al ql : Kept) : Type 0 where
   pub log : IsLog ts h
   pub typings : AreTypings ts es

@@ -1,7 +1,6 @@
 //! Types of nameless terms under binders. A part that is shared is worked on once for each list of
 //! types that its places lead to, and the first part without a type ends the walk.
 ghost use Rattle.std.specs.Prelude.{◌≡◌, ◌&&◌, ◌∷◌, [], List, Some, IfOk, OnOk};
-ghost use Rattle.std.specs.List.{All};
 ghost use Rattle.std.specs.Option.{ForSome};
 ghost use Rattle.ot_logic.specs.Names.{Name};
 ghost use Rattle.ot_logic.specs.Table.{Extends};
@@ -9,9 +8,10 @@ ghost use Rattle.ot_logic.specs.Trees.{Ty, Tm, Bound, App, Abs};
 
 use crate::node::{TermId, TermNode, TypeId};
 use crate::table::Nodes;
-use indexmap::{IndexMap, IndexSet};
+use crate::table::lists::{ListId, Lists};
+use crate::table::places::PlaceTables;
+use indexmap::IndexMap;
 use ot_logic::Memory;
-use smallvec::SmallVec;
 use std::alloc::Global;
 
 /// How deep the types of a sequent's terms may nest.
@@ -24,20 +24,32 @@ pub struct Typed {
     pub within: bool,
 }
 
-/// A term under binders of these types, the innermost first.
-#[derive(PartialEq, Eq, Hash, Drop)]
+/// A term under binders.
+#[derive(Clone, Copy, PartialEq, Eq, Hash)]
 pub(crate) struct Scope {
     id: TermId,
-    binders: SmallVec<TypeId, 4>,
+    binders: ListId,
 }
 
 /// What is known of the types of terms. It stays right when the table grows. Of a term that has no
 /// type nothing is kept: the walk ends there, and so does a log.
 #[derive(Drop)]
 pub struct Typings {
-    known: IndexMap<Scope, Typed>,
-    /// The terms with open places that are in a known scope, so that others aren't looked up.
-    open: IndexSet<TermId>,
+    known: Known,
+}
+
+/// What is known.
+#[derive(Drop)]
+pub(crate) struct Known {
+    entries: Entries,
+}
+
+/// Lists of binders, the places of terms, and the types of terms under lists of binders.
+#[derive(Drop)]
+pub(crate) struct Entries {
+    lists: Lists,
+    places: PlaceTables,
+    types: IndexMap<Scope, Typed>,
 }
 
 impl Typings {
@@ -48,16 +60,22 @@ impl Typings {
     pub fn new(alloc: Global) -> Typings
         ensures { (ts : List Item) → AreTypings ts result.known.entries }
     {
+        let entries = Entries {
+            lists: Lists::new(alloc),
+            places: PlaceTables::new(alloc),
+            types: IndexMap::new(alloc),
+        };
         Typings {
-            known: IndexMap::new(alloc),
-            open: IndexSet::new(alloc),
+            known: Known { entries },
         }
     }
 }
 
 impl Nodes {
     ghost use Rattle.ot_log_nodes.specs.Items.{HasType, HasTerm, type_at, term_at};
-    ghost use Rattle.ot_log_nodes.specs.Typing.{binders_at, HasTyping, IsTyping, IsTyped, IsCut, AreTypings};
+    ghost use Rattle.ot_log_nodes.specs.Lists.{types_of, AreBinders};
+    ghost use Rattle.ot_log_nodes.specs.Places.{ArePlaces, ArePlaceTables};
+    ghost use Rattle.ot_log_nodes.specs.Typing.{binders_at, is_leaf, HasTyping, IsTyping, IsTyped, IsCut, AreTypings};
 
     /// The type of a term under no abstraction, or `None` where it isn't well typed.
     pub fn typing(&mut self, typings: &mut Typings, id: TermId) -> Result<Option<Typed>, Memory>
@@ -67,134 +85,219 @@ impl Nodes {
         ensures extends { Extends self.old self.new }
         ensures known { OnOk result (AreTypings self.new typings.new.known.entries) }
     {
-        self.typing_under(typings, &[], id)
+        if self.loose(id) > 0 {
+            return Ok(None);
+        }
+        self.typing_under(&mut typings.known.entries, ListId::EMPTY, id)
     }
 
-    /// The type of a term under binders of these types, the innermost first.
+    /// The type of a term under binders. It is looked up, and kept, under those that count to the term.
     #[cycle(typing)]
     fn typing_under(
         &mut self,
-        typings: &mut Typings,
-        binders: &[TypeId],
+        known: &mut Entries,
+        binders: ListId,
         id: TermId,
     ) -> Result<Option<Typed>, Memory>
         requires id { HasTerm self.old id }
-        requires binders { All (HasType self.old) binders.now }
-        requires known { AreTypings self.old typings.old.known.entries }
-        ensures ok { IfOk result (IsTyping self.new (binders_at self.old binders.now) (term_at
-            self.old id)) }
+        requires binders { AreBinders self.old known.old.lists binders }
+        requires known { AreTypings self.old known.old }
+        ensures ok { IfOk result (IsTyping self.new (binders_at self.old (types_of known.old.lists
+            binders)) (term_at self.old id)) }
         ensures extends { Extends self.old self.new }
-        ensures known { OnOk result (AreTypings self.new typings.new.known.entries) }
+        ensures lists { Extends known.old.lists known.new.lists }
+        ensures known { OnOk result (AreTypings self.new known.new) }
     {
-        let near = self.cut(binders, id);
-        let known = self.known_typing(typings, near, id)?;
-        if let Some(typed) = known {
+        if self.is_leaf(id) {
+            return self.typing_node(known, binders, id);
+        }
+        let places = self.places_of(&mut known.lists, &mut known.places, id)?;
+        let near = self.near(&mut known.lists, binders, places.list, places.met, id)?;
+        let found = self.known_typing(known, places.met, near, id);
+        if let Some(typed) = found {
             return Ok(Some(typed));
         }
-        let typing = self.typing_node(typings, near, id)?;
+        let typing = self.typing_node(known, near, id)?;
         let Some(typed) = typing else {
             return Ok(None);
         };
-        self.keep_typing(typings, near, id, &typed)?;
+        self.keep_typing(known, places.list, places.met, near, id, &typed)?;
         Ok(Some(typed))
     }
 
-    /// What is known of a term under these binders.
-    fn known_typing(
-        &self,
-        typings: &Typings,
-        binders: &[TypeId],
-        id: TermId,
-    ) -> Result<Option<Typed>, Memory>
-        requires { AreTypings self.now typings.now.known.entries }
-        ensures { IfOk result (λ r. ForSome r (HasTyping self.now (binders_at self.now binders.now)
-            (term_at self.now id))) }
+    /// Whether a term has no parts.
+    fn is_leaf(&self, id: TermId) -> bool
+        requires { HasTerm self.now id }
+        ensures { result ≡ is_leaf (term_at self.now id) }
     {
-        if !binders.is_empty() && !typings.open.contains(&id) {
-            return Ok(None);
-        }
-        let near = SmallVec::from_slice(self.allocator(), binders)?;
-        match typings.known.get(&Scope { id, binders: near }) {
-            Some(typed) => Ok(Some(*typed)),
-            None => Ok(None),
+        match self.term_node(id) {
+            TermNode::Free(_) => true,
+            TermNode::Const(_, _) => true,
+            TermNode::Bound(_) => true,
+            TermNode::App(_, _) => false,
+            TermNode::Abs(_, _) => false,
         }
     }
 
-    /// Keeps the typing of a term under these binders.
+    /// Of the binders around a term those that count to it, where its type may be known under them; else all.
+    fn near(
+        &self,
+        lists: &mut Lists,
+        binders: ListId,
+        places: ListId,
+        met: bool,
+        id: TermId,
+    ) -> Result<ListId, Memory>
+        requires binders { AreBinders self.now lists.old binders }
+        requires places { ArePlaces lists.old places (term_at self.now id) }
+        ensures binders { IfOk result (AreBinders self.now lists.new) }
+        ensures cut { IfOk result (λ r. IsCut self.now (binders_at self.now (types_of lists.old
+            binders)) (term_at self.now id) (types_of lists.new r)) }
+        ensures lists { Extends lists.old lists.new }
+    {
+        if met {
+            self.cut(lists, binders, places, id)
+        } else {
+            Ok(binders)
+        }
+    }
+
+    /// Of the binders around a term those that count to it.
+    fn cut(
+        &self,
+        lists: &mut Lists,
+        binders: ListId,
+        places: ListId,
+        id: TermId,
+    ) -> Result<ListId, Memory>
+        requires binders { AreBinders self.now lists.old binders }
+        requires places { ArePlaces lists.old places (term_at self.now id) }
+        ensures binders { IfOk result (AreBinders self.now lists.new) }
+        ensures cut { IfOk result (λ r. IsCut self.now (binders_at self.now (types_of lists.old
+            binders)) (term_at self.now id) (types_of lists.new r)) }
+        ensures lists { Extends lists.old lists.new }
+    {
+        lists.cut(binders, places)
+    }
+
+    /// What is known of a term under these binders.
+    fn known_typing(&self, known: &Entries, met: bool, binders: ListId, id: TermId) -> Option<Typed>
+        requires { AreTypings self.now known.now }
+        ensures { ForSome result (HasTyping self.now (binders_at self.now (types_of known.now.lists
+            binders)) (term_at self.now id)) }
+    {
+        if !met {
+            return None;
+        }
+        match known.types.get(&Scope { id, binders }) {
+            Some(typed) => Some(*typed),
+            None => None,
+        }
+    }
+
+    /// Keeps the typing of a term under these binders, of which those that count to it are taken.
     fn keep_typing(
         &self,
-        typings: &mut Typings,
-        binders: &[TypeId],
+        known: &mut Entries,
+        places: ListId,
+        met: bool,
+        binders: ListId,
         id: TermId,
         typed: &Typed,
     ) -> Result<(), Memory>
         requires id { HasTerm self.now id }
-        requires binders { All (HasType self.now) binders.now }
-        requires known { AreTypings self.now typings.old.known.entries }
-        requires typed { HasTyping self.now (binders_at self.now binders.now) (term_at self.now id)
-            typed.now }
-        ensures { OnOk result (AreTypings self.now typings.new.known.entries) }
+        requires places { ArePlaces known.old.lists places (term_at self.now id) }
+        requires binders { AreBinders self.now known.old.lists binders }
+        requires known { AreTypings self.now known.old }
+        requires typed { HasTyping self.now (binders_at self.now (types_of known.old.lists binders))
+            (term_at self.now id) typed.now }
+        ensures lists { Extends known.old.lists known.new.lists }
+        ensures known { OnOk result (AreTypings self.now known.new) }
     {
-        let scope = Scope {
-            id,
-            binders: SmallVec::from_slice(self.allocator(), binders)?,
-        };
-        typings.known.insert(scope, *typed)?;
-        if !binders.is_empty() {
-            typings.open.insert(id)?;
-        }
+        let binders = self.cut(&mut known.lists, binders, places, id)?;
+        self.keep_met(&known.lists, &mut known.places, places, met, id)?;
+        known.types.insert(Scope { id, binders }, *typed)?;
         Ok(())
     }
 
-    /// The same, by its node.
+    /// Keeps that the type of a term is known, if it wasn't.
+    fn keep_met(
+        &self,
+        lists: &Lists,
+        tables: &mut PlaceTables,
+        places: ListId,
+        met: bool,
+        id: TermId,
+    ) -> Result<(), Memory>
+        requires id { HasTerm self.now id }
+        requires places { ArePlaces lists.now places (term_at self.now id) }
+        requires known { ArePlaceTables self.now lists.now tables.old }
+        ensures { OnOk result (ArePlaceTables self.now lists.now tables.new) }
+    {
+        if met {
+            return Ok(());
+        }
+        self.keep_places(lists, tables, id, places, true)
+    }
+
+    /// The type of a term under binders, by its node.
     #[cycle(typing)]
     fn typing_node(
         &mut self,
-        typings: &mut Typings,
-        binders: &[TypeId],
+        known: &mut Entries,
+        binders: ListId,
         id: TermId,
     ) -> Result<Option<Typed>, Memory>
         requires id { HasTerm self.old id }
-        requires binders { All (HasType self.old) binders.now }
-        requires known { AreTypings self.old typings.old.known.entries }
-        ensures ok { IfOk result (IsTyping self.new (binders_at self.old binders.now) (term_at
-            self.old id)) }
+        requires binders { AreBinders self.old known.old.lists binders }
+        requires known { AreTypings self.old known.old }
+        ensures ok { IfOk result (IsTyping self.new (binders_at self.old (types_of known.old.lists
+            binders)) (term_at self.old id)) }
         ensures extends { Extends self.old self.new }
-        ensures known { OnOk result (AreTypings self.new typings.new.known.entries) }
+        ensures lists { Extends known.old.lists known.new.lists }
+        ensures known { OnOk result (AreTypings self.new known.new) }
     {
         match self.term_node(id) {
             TermNode::Free(v) => Ok(Some(self.typed(v.ty, true))),
             TermNode::Const(_, ty) => Ok(Some(self.typed(ty, true))),
-            TermNode::Bound(place) => Ok(self.typing_bound(binders, place)),
+            TermNode::Bound(place) => Ok(self.typing_bound(&known.lists, binders, place)),
             TermNode::App(f, x) => {
-                let f = self.typing_under(typings, binders, f)?;
+                let f = self.typing_under(known, binders, f)?;
                 let Some(f) = f else {
                     return Ok(None);
                 };
-                let x = self.typing_under(typings, binders, x)?;
+                let x = self.typing_under(known, binders, x)?;
                 Ok(self.applied_to(f, x))
             }
             TermNode::Abs(ty, body) => {
-                let inner = under(self.allocator(), ty, binders)?;
-                let body = self.typing_under(typings, inner.as_slice(), body)?;
+                let inner = self.inside(known, binders, ty, body)?;
+                let body = self.typing_under(known, inner, body)?;
                 self.abstracted(ty, body)
             }
         }
     }
 
-    /// The types to which the places of a term lead.
-    fn cut<'a>(&self, binders: &'a [TypeId], id: TermId) -> &'a [TypeId]
-        requires { HasTerm self.now id }
-        ensures cut { (l : List (Ty Name)) → l ≡ binders_at self.now binders.entry.now → IsCut
-            self.now l (term_at self.now id) result.now }
-        ensures each { All (HasType self.now) binders.entry.now → All (HasType self.now) result.now }
+    /// The binders that count to the body of an abstraction.
+    fn inside(
+        &self,
+        known: &mut Entries,
+        binders: ListId,
+        ty: TypeId,
+        body: TermId,
+    ) -> Result<ListId, Memory>
+        requires ty { HasType self.now ty }
+        requires body { HasTerm self.now body }
+        requires binders { AreBinders self.now known.old.lists binders }
+        requires known { AreTypings self.now known.old }
+        ensures binders { IfOk result (AreBinders self.now known.new.lists) }
+        ensures cut { IfOk result (λ r. IsCut self.now (type_at self.now ty ∷ binders_at self.now
+            (types_of known.old.lists binders)) (term_at self.now body) (types_of known.new.lists r)) }
+        ensures lists { Extends known.old.lists known.new.lists }
+        ensures known { OnOk result (AreTypings self.now known.new) }
     {
-        let count = self.loose(id);
-        if count < binders.len() as u64 {
-            &binders[..count as usize]
-        } else {
-            binders
-        }
+        let places = self.places_of(&mut known.lists, &mut known.places, body)?;
+        let all = known.lists.under(ty, binders)?;
+        self.cut(&mut known.lists, all, places.list, body)
     }
 
     /// The typing of a term of this type, where its parts are so.
@@ -209,14 +312,14 @@ impl Nodes {
     }
 
     /// The typing of a place.
-    fn typing_bound(&self, binders: &[TypeId], place: u64) -> Option<Typed>
-        requires { All (HasType self.now) binders.now }
-        ensures { IsTyping self.now (binders_at self.now binders.now) (Bound place) result }
+    fn typing_bound(&self, lists: &Lists, binders: ListId, place: u64) -> Option<Typed>
+        requires { AreBinders self.now lists.now binders }
+        ensures { IsTyping self.now (binders_at self.now (types_of lists.now binders)) (Bound place)
+            result }
     {
-        if place < binders.len() as u64 {
-            Some(self.typed(binders[place as usize], true))
-        } else {
-            None
+        match lists.type_of(binders, place) {
+            Some(ty) => Some(self.typed(ty, true)),
+            None => None,
         }
     }
 
@@ -267,15 +370,6 @@ impl Nodes {
             None => Ok(None),
         }
     }
-}
-
-/// The binders with one more inside.
-fn under(alloc: Global, ty: TypeId, binders: &[TypeId]) -> Result<SmallVec<TypeId, 4>, Memory>
-    ensures { IfOk result (λ inner. inner.items ≡ ty ∷ binders.now) }
-{
-    let mut inner = SmallVec::from_slice(alloc, binders)?;
-    inner.insert(0, ty)?;
-    Ok(inner)
 }
 
 /// Whether both hold.
