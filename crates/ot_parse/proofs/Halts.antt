@@ -1,5 +1,5 @@
 -- What goes on behind what was read, and what doesn't.
-use Rattle.std.specs.Prelude.{◌≡◌, ℕ, List}
+use Rattle.std.specs.Prelude.{◌≡◌, ℕ, List, Result, Ok, Err, IsErrAnd}
 use Rattle.std.proofs.Common.{◌∙◌, ap}
 use Rattle.ot_forms.specs.Reading.{Reading, next, mapped}
 use Rattle.ot_parse.specs.declared.halt.Halt.{Halt}
@@ -22,3 +22,8 @@ pub halt-same : {A : Type 0} (h : Halt) (o p : Reading A) → p ≡ o → IsHalt
 halt-same (halts.Syntax r) o p q e = q ∙ e
 halt-same (halts.TooManyOpen r) o p q e = q ∙ e
 halt-same (halts.Memory memory) o p q e = tt
+
+-- what `?` hands on is the refusal that it met
+pub handed-on : {A E : Type 0} (r : Result A E) (e : E) → IsErrAnd r (λ x. x ≡ e) → r ≡ Err e
+handed-on (Ok x) e h = absurd h
+handed-on (Err x) e h = ap Err h

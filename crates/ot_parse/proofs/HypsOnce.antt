@@ -38,7 +38,8 @@ once-push [] u = refl
 once-push (t ∷ ts) u = ap (λ b. cond b (once_each names (ts ++ u ∷ [])) (t ∷ once_each names (ts ++ u ∷ [])))
     (in-push t u ts) ∙ go (is_in names t ts) (same_tm names u t) (once-push ts u) refl refl where
       -- a term that isn't kept twice: where it is among the others it stays there
-      go : (p q : Bool) → once_each names (ts ++ u ∷ []) ≡ others u (once_each names ts) ++ u ∷ [] → is_in names t ts ≡ p
+      go : (p q : Bool) → once_each names (ts ++ u ∷ []) ≡ others u (once_each names ts) ++ u ∷ []
+          → is_in names t ts ≡ p
           → same_tm names u t ≡ q
           → cond (p || q) (once_each names (ts ++ u ∷ [])) (t ∷ once_each names (ts ++ u ∷ []))
           ≡ others u (cond p (once_each names ts) (t ∷ once_each names ts)) ++ u ∷ []

@@ -23,3 +23,4 @@ pub mod Made
 pub mod WholeLines
 pub mod Refusing
 pub mod Passing
+pub mod Handing

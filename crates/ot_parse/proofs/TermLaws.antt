@@ -174,7 +174,9 @@ module _ (n : ℕ) (hidden : List (Symbol Name)) (nt : IsNotation hidden) (m : �
           let c = term-length hidden nt m s a r d in
           let i : place_at n (b ∷ s) + 1 ≡ place_at n s = omega (arith, w) in
           let j : place_at n (b ∷ s) + 1 + 1 + length (term_text hidden a) ≡ place_at n r + 1 = omega (arith, w, c) in
-          let y : meaning hidden l false (place_at n (b ∷ s) + 1) a ≡ wholly l false (place_at n s) (raw hidden l (place_at n s) a) = ap (λ q. meaning hidden l false q a) i ∙ whole-raw hidden l false (place_at n s) a in
+          let y : meaning hidden l false (place_at n (b ∷ s) + 1) a
+          ≡ wholly l false (place_at n s) (raw hidden l (place_at n s) a) =
+          ap (λ q. meaning hidden l false q a) i ∙ whole-raw hidden l false (place_at n s) a in
           ap closed
           (twice (More a) (applied_of hidden l k (place_at n (b ∷ s) + 1) f (wholly l false p x)) (further r)
           ∙ mapped-same _ _ (further r)

@@ -23,7 +23,7 @@ pub(crate) fn namespace_of(name: &Name) -> &[Vec<u8>]
     &components[..components.len() - 1]
 }
 
-/// Whether two lists of components are one.
+/// Whether two lists of components are equal.
 pub(crate) fn are_same(left: &[Vec<u8>], right: &[Vec<u8>]) -> bool
     ensures { result ≡ same_name (map (λ c. c.items) left.now) (map (λ c. c.items) right.now) }
 {

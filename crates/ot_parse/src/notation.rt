@@ -278,7 +278,7 @@ fn is_hidden_in(shown: &[Name], bases: &Bases<'_>, symbol: &(WordKind, Name)) ->
     bases.is_alone(symbol.0, &symbol.1)
 }
 
-/// Whether two kinds are one.
+/// Whether two kinds are the same.
 pub(crate) fn is_one_kind(left: WordKind, right: WordKind) -> bool
     ensures { result ≡ kind_test left right }
 {

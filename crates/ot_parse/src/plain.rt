@@ -64,7 +64,7 @@ fn put_sequent(page: &mut Page, alloc: Global, sequent: &Readable)
 
 /// A term.
 #[cycle(terms)]
-#[tactic(auto, using(ot_logic::proofs::PlainTrees::term_Free, ot_logic::proofs::PlainTrees::term_Con, ot_logic::proofs::PlainTrees::term_Bound, ot_logic::proofs::PlainTrees::term_App, ot_logic::proofs::PlainTrees::term_Abs))]
+#[tactic(auto, using(ot_logic::proofs::PlainTrees::term_steps))]
 fn put_term(page: &mut Page, term: &Tm)
     ensures { IsPut (tm_text (term_of_tree term.now)) (printed page.old) (printed page.new) }
 {
@@ -111,7 +111,7 @@ fn put_front(page: &mut Page, f: &Tm)
 
 /// What a function was applied to.
 #[cycle(terms)]
-#[tactic(auto, using(ot_logic::proofs::PlainTrees::term_Free, ot_logic::proofs::PlainTrees::term_Con, ot_logic::proofs::PlainTrees::term_Bound, ot_logic::proofs::PlainTrees::term_App, ot_logic::proofs::PlainTrees::term_Abs, ot_text::proofs::Putting::nothing))]
+#[tactic(auto, using(ot_logic::proofs::PlainTrees::term_steps, ot_text::proofs::Putting::nothing))]
 fn put_argument(page: &mut Page, f: &Tm)
     ensures { IsPut (argument_text (term_of_tree f.now)) (printed page.old) (printed page.new) }
 {
@@ -125,7 +125,7 @@ fn put_argument(page: &mut Page, f: &Tm)
 }
 
 /// Whether a function makes an equation of a further argument.
-#[tactic(auto, using(ot_logic::proofs::PlainTrees::term_Free, ot_logic::proofs::PlainTrees::term_Con, ot_logic::proofs::PlainTrees::term_Bound, ot_logic::proofs::PlainTrees::term_App, ot_logic::proofs::PlainTrees::term_Abs))]
+#[tactic(auto, using(ot_logic::proofs::PlainTrees::term_steps))]
 fn is_half_equation(f: &Tm) -> bool
     ensures { (x : TermTree NameValue) → is_equation names (App (term_of_tree f.now) x) ≡ result }
 {
@@ -139,7 +139,7 @@ fn is_half_equation(f: &Tm) -> bool
 }
 
 /// Whether a term is `=` at a type a -> (a -> bool).
-#[tactic(auto, using(ot_logic::proofs::PlainTrees::term_Free, ot_logic::proofs::PlainTrees::term_Con, ot_logic::proofs::PlainTrees::term_Bound, ot_logic::proofs::PlainTrees::term_App, ot_logic::proofs::PlainTrees::term_Abs))]
+#[tactic(auto, using(ot_logic::proofs::PlainTrees::term_steps))]
 fn is_equality(head: &Tm) -> bool
     ensures { (a b : TermTree NameValue) → is_equation names (App (App (term_of_tree head.now) a) b) ≡ result }
 {

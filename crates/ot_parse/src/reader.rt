@@ -80,10 +80,8 @@ fn read_one<'a>(
     ensures shorter { IfOk result (λ x. length x.1.now ≤ length text.now) }
 {
     notation.sound();
-    match read_part(alloc, notation, total, text) {
-        Err(halt) => Err(halt),
-        Ok((part, rest)) => Ok((whole(wanted, place_of(total, text), part), rest)),
-    }
+    let (part, rest) = read_part(alloc, notation, total, text)?;
+    Ok((whole(wanted, place_of(total, text), part), rest))
 }
 
 /// A whole term and nothing behind it.
@@ -97,15 +95,11 @@ fn read_whole<'a>(
     requires { length text.now ≤ total }
     ensures { IsWholeText (meant_at notation.now total wanted text.now) result }
 {
-    match read_one(alloc, notation, total, wanted, text) {
-        Err(halt) => Err(halt),
-        Ok((term, rest)) => {
-            if rest.is_empty() {
-                Ok(term)
-            } else {
-                Err(Halt::Syntax(rest))
-            }
-        }
+    let (term, rest) = read_one(alloc, notation, total, wanted, text)?;
+    if rest.is_empty() {
+        Ok(term)
+    } else {
+        Err(Halt::Syntax(rest))
     }
 }
 
@@ -118,13 +112,9 @@ fn read_line<'a>(
     ensures { IsWholeLine notation.now line.now result }
 {
     notation.sound();
-    match read_hyps(alloc, notation, line) {
-        Err(halt) => Err(halt),
-        Ok((hyps, rest)) => match read_whole(alloc, notation, line.len(), true, rest) {
-            Err(halt) => Err(halt),
-            Ok(concl) => Ok(sequent(hyps, concl)),
-        },
-    }
+    let (hyps, rest) = read_hyps(alloc, notation, line)?;
+    let concl = read_whole(alloc, notation, line.len(), true, rest)?;
+    Ok(sequent(hyps, concl))
 }
 
 /// The sequent of these hypotheses and this conclusion, or the refusal of the first part that is refused.
@@ -153,11 +143,9 @@ fn read_hyps<'a>(
     match line.split_first() {
         None => Err(Halt::Syntax(line)),
         Some((byte, _)) => {
-            if *byte == 124 {
-                match literal(line, b"|- ") {
-                    Err(halt) => Err(halt),
-                    Ok(rest) => Ok((Hyps::Terms(Vec::new(alloc)), rest)),
-                }
+            if *byte == b'|' {
+                let rest = literal(line, b"|- ")?;
+                Ok((Hyps::Terms(Vec::new(alloc)), rest))
             } else {
                 read_some_hyps(alloc, notation, line)
             }
@@ -179,22 +167,14 @@ fn read_some_hyps<'a>(
     let mut hyps = Hyps::Terms(Vec::new(alloc));
     let mut rest = line;
     'hyps: loop {
-        match read_one(alloc, notation, line.len(), true, rest) {
-            Err(halt) => return Err(halt),
-            Ok((term, end)) => match separator(end) {
-                Err(halt) => return Err(halt),
-                Ok((is_further, next)) => match with_term(hyps, term) {
-                    Err(memory) => return Err(Halt::Memory(memory)),
-                    Ok(more) => {
-                        if !is_further {
-                            return Ok((more, next));
-                        }
-                        hyps = more;
-                        rest = next;
-                    }
-                },
-            },
+        let (term, end) = read_one(alloc, notation, line.len(), true, rest)?;
+        let (is_further, next) = separator(end)?;
+        let more = with_term(hyps, term)?;
+        if !is_further {
+            return Ok((more, next));
         }
+        hyps = more;
+        rest = next;
     }
 }
 
@@ -202,7 +182,7 @@ fn read_some_hyps<'a>(
 fn separator(text: &[u8]) -> Result<(bool, &[u8]), Halt<'_>>
     ensures { IsReadAs (λ x. x.0) (λ x. x.1.now) result (separator_at text.now) }
 {
-    match behind(44, text) {
+    match behind(b',', text) {
         Some(after) => Ok((true, literal(after, b" ")?)),
         None => Ok((false, literal(text, b" |- ")?)),
     }

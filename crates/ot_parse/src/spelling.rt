@@ -159,7 +159,7 @@ fn inner_piece<'a>(text: &'a [u8]) -> Piece<'a>
         [byte, after @ ..] => {
             if is_inner(*byte) {
                 Piece::Byte(*byte, after)
-            } else if *byte == 46 {
+            } else if *byte == b'.' {
                 Piece::Dot(after)
             } else {
                 Piece::End
@@ -176,11 +176,11 @@ fn quoted_piece<'a>(text: &'a [u8]) -> Piece<'a>
     match text {
         [] => Piece::Stop(text),
         [byte, after @ ..] => {
-            if *byte == 34 {
+            if *byte == b'"' {
                 Piece::End
-            } else if *byte == 92 {
+            } else if *byte == b'\\' {
                 escaped_piece(after)
-            } else if *byte == 46 {
+            } else if *byte == b'.' {
                 Piece::Dot(after)
             } else {
                 Piece::Byte(*byte, after)
@@ -210,7 +210,7 @@ fn escaped_piece<'a>(text: &'a [u8]) -> Piece<'a>
 fn is_special(byte: u8) -> bool
     ensures { result ≡ special_test byte }
 {
-    byte == 34 || byte == 92 || byte == 46
+    byte == b'"' || byte == b'\\' || byte == b'.'
 }
 
 /// The name of a bare word, and the bytes behind it.
@@ -234,7 +234,7 @@ pub(crate) fn variable_word(alloc: Global, text: &[u8]) -> Result<(Name, &[u8]),
     match text {
         [] => Err(Halt::Syntax(text)),
         [byte, after @ ..] => {
-            if *byte == 34 {
+            if *byte == b'"' {
                 quoted_variable(alloc, after)
             } else {
                 bare(alloc, text)

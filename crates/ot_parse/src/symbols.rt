@@ -25,7 +25,7 @@ pub(crate) fn operator_word<'a>(
     match text {
         [] => Err(Halt::Syntax(text)),
         [byte, after @ ..] => {
-            if *byte == 34 {
+            if *byte == b'"' {
                 quoted_symbol(alloc, notation, WordKind::TyOp, after)
             } else {
                 bare_symbol(alloc, notation, WordKind::TyOp, text)
@@ -81,7 +81,7 @@ pub(crate) fn constant_word<'a>(
     match text {
         [] => Err(Halt::Syntax(text)),
         [byte, after @ ..] => {
-            if *byte == 34 {
+            if *byte == b'"' {
                 return quoted_symbol(alloc, notation, WordKind::Con, after);
             }
             if is_sign(*byte) {

@@ -80,16 +80,16 @@ pub(crate) fn read_part<'a>(
     text: &'a [u8],
 ) -> Result<(Meant, &'a [u8]), Halt<'a>>
     requires { length text.now ≤ total }
-    ensures read { IsReadAs (λ x. meant_of x.0) (λ x. x.1.now) result (begun total notation.now open_limit [] text.now) }
+    ensures read { IsReadAs (λ x. meant_of x.0) (λ x. x.1.now) result
+        (begun total notation.now open_limit [] text.now) }
     ensures kept { IfOk result (λ x. IsMeant [] x.0) }
 {
     let mut frames = Vec::new(alloc);
     let mut rest = text;
     'terms: loop {
-        match next_of(alloc, notation, total, &mut frames, rest) {
-            Err(halt) => return Err(halt),
-            Ok(Next::Ended(part, behind)) => return Ok((part, behind)),
-            Ok(Next::Begins(behind)) => rest = behind,
+        match next_of(alloc, notation, total, &mut frames, rest)? {
+            Next::Ended(part, behind) => return Ok((part, behind)),
+            Next::Begins(behind) => rest = behind,
         }
     }
 }
@@ -119,14 +119,13 @@ fn next_of<'a>(
 {
     notation.sound();
     let room = OPEN_LIMIT - frames.len();
-    match front_of(alloc, notation, total, frames.as_slice(), room, text) {
-        Err(halt) => Err(halt),
-        Ok(Front::Inside(inside, after)) => {
+    match front_of(alloc, notation, total, frames.as_slice(), room, text)? {
+        Front::Inside(inside, after) => {
             frames.push(inside)?;
             Ok(Next::Begins(after))
         }
-        Ok(Front::Leaf(part, after)) => ended(alloc, notation, total, frames, part, after),
-        Ok(Front::Head(inside, part, after)) => {
+        Front::Leaf(part, after) => ended(alloc, notation, total, frames, part, after),
+        Front::Head(inside, part, after) => {
             frames.push(inside)?;
             ended(alloc, notation, total, frames, part, after)
         }
@@ -146,10 +145,9 @@ fn ended<'a>(
         → IsNext total notation.now start frames.new.items result }
     ensures shorter { IfOk result (BeginsWithin (length text.now)) }
 {
-    match close(alloc, notation, total, frames, part, text) {
-        Err(halt) => Err(halt),
-        Ok(Back::Whole(part, behind)) => Ok(Next::Ended(part, behind)),
-        Ok(Back::Further(inside, behind)) => {
+    match close(alloc, notation, total, frames, part, text)? {
+        Back::Whole(part, behind) => Ok(Next::Ended(part, behind)),
+        Back::Further(inside, behind) => {
             frames.push(inside)?;
             Ok(Next::Begins(behind))
         }
@@ -163,7 +161,7 @@ pub(crate) fn place_of(total: usize, text: &[u8]) -> u64
     total.saturating_sub(text.len()) as u64
 }
 
-/// The front of a term inside what is open, with room for so many more.
+/// The front of a term inside what is open, with room for so many more parentheses and braces.
 fn front_of<'a>(
     alloc: Global,
     notation: &Notation,
@@ -179,14 +177,14 @@ fn front_of<'a>(
     match text.split_first() {
         None => Err(Halt::Syntax(text)),
         Some((byte, after)) => {
-            if *byte == 40 {
+            if *byte == b'(' {
                 if room == 0 {
                     return Err(Halt::TooManyOpen(text));
                 }
                 let at = place_of(total, text);
                 return inside(alloc, notation, total, frames, room - 1, at, after);
             }
-            if *byte == 123 {
+            if *byte == b'{' {
                 if room == 0 {
                     return Err(Halt::TooManyOpen(text));
                 }
@@ -299,10 +297,10 @@ fn inside<'a>(
     match text.split_first() {
         None => Err(Halt::Syntax(text)),
         Some((byte, after)) => {
-            if *byte == 92 {
+            if *byte == b'\\' {
                 return binding_front(alloc, notation, total, room, after);
             }
-            if *byte == 34 {
+            if *byte == b'"' {
                 return variable_front(alloc, notation, room, text);
             }
             if opens_term(*byte) {
@@ -313,11 +311,11 @@ fn inside<'a>(
     }
 }
 
-/// Whether a term that begins with this byte is no bound place.
+/// Whether this byte opens a parenthesis or a constant's brace.
 fn opens_term(byte: u8) -> bool
     ensures { result ≡ ((byte == 40) || (byte == 123)) }
 {
-    byte == 40 || byte == 123
+    byte == b'(' || byte == b'{'
 }
 
 /// An abstraction behind its backslash.
@@ -434,7 +432,7 @@ fn is_free(name: &Name, text: &[u8]) -> bool
 {
     match text.split_first() {
         None => true,
-        Some((byte, _)) => *byte == 58 || !is_single(name),
+        Some((byte, _)) => *byte == b':' || !is_single(name),
     }
 }
 
@@ -487,10 +485,9 @@ fn close<'a>(
     'open: loop {
         match frames.pop() {
             None => return Ok(Back::Whole(part, rest)),
-            Some(inside) => match back_of(alloc, notation, total, inside, part, rest) {
-                Err(halt) => return Err(halt),
-                Ok(Back::Further(inside, behind)) => return Ok(Back::Further(inside, behind)),
-                Ok(Back::Whole(whole, behind)) => {
+            Some(inside) => match back_of(alloc, notation, total, inside, part, rest)? {
+                Back::Further(inside, behind) => return Ok(Back::Further(inside, behind)),
+                Back::Whole(whole, behind) => {
                     part = whole;
                     rest = behind;
                 }
@@ -549,7 +546,7 @@ fn back_of_first<'a>(
     behind_first(total, at, place, part, rest)
 }
 
-/// The same behind the space.
+/// Behind a first term and a space stands an operator or an argument.
 fn behind_first<'a>(
     total: usize,
     at: u64,
@@ -660,15 +657,13 @@ fn back_of_argument<'a>(
     match text.split_first() {
         None => Err(Halt::Syntax(text)),
         Some((byte, after)) => {
-            if *byte == 32 {
+            if *byte == b' ' {
                 let function = whole(false, at, applied);
                 let place = place_of(total, after);
                 return Ok(Back::Further(Open::Argument(at, place, function), after));
             }
-            match literal(text, b")") {
-                Err(halt) => Err(halt),
-                Ok(rest) => Ok(Back::Whole(applied, rest)),
-            }
+            let rest = literal(text, b")")?;
+            Ok(Back::Whole(applied, rest))
         }
     }
 }
@@ -677,18 +672,16 @@ fn back_of_argument<'a>(
 fn back_of_body<'a>(
     alloc: Global,
     place: u64,
-    name: &'a [u8],
+    _name: &'a [u8],
     ty: Ty,
     part: Meant,
     text: &'a [u8],
 ) -> Result<Back<'a>, Halt<'a>>
     ensures read { (n : ℕ) (h : List (Symbol NameValue)) (m : ℕ) (l : Around)
-        → IsMeant ((name.now, type_of_tree ty) ∷ l) part → length text.now ≤ n
-        → IsBack n h m l (after n h m l (Body place name.now (type_of_tree ty)) (meant_of part) text.now) result }
+        → IsMeant ((_name.now, type_of_tree ty) ∷ l) part → length text.now ≤ n
+        → IsBack n h m l (after n h m l (Body place _name.now (type_of_tree ty)) (meant_of part) text.now) result }
     ensures shorter { IfOk result (EndsWithin (length text.now)) }
 {
-    // The contract alone asks for the name.
-    let _ = name;
     let rest = literal(text, b")")?;
     let body = whole(false, place, part);
     let abstraction = abstraction(alloc, ty, body)?;

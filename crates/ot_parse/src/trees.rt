@@ -1,4 +1,4 @@
-//! Plain types: their parts, and whether two are one.
+//! Plain types and terms: their parts, and whether two are equal.
 ghost use Rattle.std.specs.Prelude.{◌≡◌, [], ◌∷◌, map, length, true, false, IfNone, IfSome};
 ghost use Rattle.ot_text.specs.Texts.{is_function};
 ghost use Rattle.ot_logic.specs.Naming.{names};
@@ -20,9 +20,9 @@ pub(crate) fn is_text(name: &Name, text: &[u8]) -> bool
     }
 }
 
-/// Whether two types are one.
+/// Whether two types are equal.
 #[cycle(same)]
-#[tactic(auto, using(ot_logic::proofs::PlainTrees::type_Var, ot_logic::proofs::PlainTrees::type_Op))]
+#[tactic(auto, using(ot_logic::proofs::PlainTrees::type_steps))]
 pub(crate) fn same_type(left: &Ty, right: &Ty) -> bool
     ensures { result ≡ same_ty names (type_of_tree left.now) (type_of_tree right.now) }
 {
@@ -51,7 +51,7 @@ fn same_types(left: &Vec<Ty>, right: &Vec<Ty>) -> bool
 }
 
 /// Whether a type is that of propositions.
-#[tactic(auto, using(ot_logic::proofs::PlainTrees::type_Var, ot_logic::proofs::PlainTrees::type_Op))]
+#[tactic(auto, using(ot_logic::proofs::PlainTrees::type_steps))]
 pub(crate) fn is_bool(ty: &Ty) -> bool
     ensures { result ≡ same_ty names (type_of_tree ty.now) (bool_ty names) }
 {
@@ -92,8 +92,8 @@ pub(crate) fn is_arrow(name: &Name, args: &Vec<Ty>) -> bool
     args.len() == 2 && is_text(name, b"->")
 }
 
-/// Whether two terms are one.
-#[tactic(auto, using(ot_logic::proofs::PlainTrees::term_Free, ot_logic::proofs::PlainTrees::term_Con, ot_logic::proofs::PlainTrees::term_Bound, ot_logic::proofs::PlainTrees::term_App, ot_logic::proofs::PlainTrees::term_Abs))]
+/// Whether two terms are equal.
+#[tactic(auto, using(ot_logic::proofs::PlainTrees::term_steps))]
 pub(crate) fn same_term(left: &Tm, right: &Tm) -> bool
     ensures { result ≡ same_tm names (term_of_tree left.now) (term_of_tree right.now) }
 {

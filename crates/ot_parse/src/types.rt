@@ -9,8 +9,8 @@ ghost use Rattle.ot_forms.specs.Reading.{Got, mapped, variable_at, operator_at, 
 ghost use Rattle.ot_parse.specs.Gives.{IsReadAs};
 ghost use Rattle.ot_logic.specs.PlainTrees.{type_of_tree};
 ghost use Rattle.ot_parse.specs.Frames.{Domain, Range, Argument, frame_of, frames_of, closed, word_first, is_spaced};
-ghost use Rattle.ot_parse.specs.Frames.{IsFrontOf, IsLeafOf, IsTypeFront, IsInsideOf, IsBackOf, ClosesType, IsOn, IsNext};
-ghost use Rattle.ot_parse.specs.Frames.{OpensWithin, EndsWithin, BeginsWithin};
+ghost use Rattle.ot_parse.specs.Frames.{IsFrontOf, IsLeafOf, IsTypeFront, IsInsideOf, IsBackOf, ClosesType};
+ghost use Rattle.ot_parse.specs.Frames.{IsOn, IsNext, OpensWithin, EndsWithin, BeginsWithin};
 
 use crate::halt::Halt;
 use crate::notation::Notation;
@@ -62,10 +62,9 @@ pub(crate) fn read_type<'a>(
     let mut frames = Vec::new(alloc);
     let mut rest = text;
     'types: loop {
-        match next_of(alloc, notation, room, &mut frames, rest) {
-            Err(halt) => return Err(halt),
-            Ok(Next::Ended(ty, behind)) => return Ok((ty, behind)),
-            Ok(Next::Begins(behind)) => rest = behind,
+        match next_of(alloc, notation, room, &mut frames, rest)? {
+            Next::Ended(ty, behind) => return Ok((ty, behind)),
+            Next::Begins(behind) => rest = behind,
         }
     }
 }
@@ -93,16 +92,14 @@ fn next_of<'a>(
     ensures shorter { IfOk result (BeginsWithin (length text.now)) }
 {
     notation.sound();
-    match front_of(alloc, notation, room - frames.len(), text) {
-        Err(halt) => Err(halt),
-        Ok(Front::Inside(inside, after)) => {
+    match front_of(alloc, notation, room - frames.len(), text)? {
+        Front::Inside(inside, after) => {
             frames.push(inside)?;
             Ok(Next::Begins(after))
         }
-        Ok(Front::Leaf(ty, after)) => match close(alloc, notation, frames, ty, after) {
-            Err(halt) => Err(halt),
-            Ok(Back::Whole(ty, behind)) => Ok(Next::Ended(ty, behind)),
-            Ok(Back::Further(inside, behind)) => {
+        Front::Leaf(ty, after) => match close(alloc, notation, frames, ty, after)? {
+            Back::Whole(ty, behind) => Ok(Next::Ended(ty, behind)),
+            Back::Further(inside, behind) => {
                 frames.push(inside)?;
                 Ok(Next::Begins(behind))
             }
@@ -123,10 +120,10 @@ fn front_of<'a>(
     match text.split_first() {
         None => Err(Halt::Syntax(text)),
         Some((byte, after)) => {
-            if *byte == 39 {
+            if *byte == b'\'' {
                 return variable_front(alloc, after);
             }
-            if *byte != 40 {
+            if *byte != b'(' {
                 return operator_front(alloc, notation, text);
             }
             if room == 0 {
@@ -174,14 +171,14 @@ fn inside<'a>(alloc: Global, notation: &Notation, text: &'a [u8]) -> Result<Fron
     }
 }
 
-/// Whether a type that begins with this byte is no operator without arguments.
+/// Whether this byte begins a type variable or opens a parenthesis.
 fn opens_domain(byte: u8) -> bool
     ensures { result ≡ ((byte == 39) || (byte == 40)) }
 {
-    byte == 39 || byte == 40
+    byte == b'\'' || byte == b'('
 }
 
-/// The same where it isn't a domain with a quote or parenthesis.
+/// What a parenthesis opens with an operator's word behind it.
 fn inside_word<'a>(
     alloc: Global,
     notation: &Notation,
@@ -197,23 +194,21 @@ fn inside_word<'a>(
     behind_word(alloc, notation, name, rest)
 }
 
-/// Behind an operator's word and a space.
+/// What a parenthesis opens, behind its operator's word and a space: the first argument, or an arrow.
 fn behind_word<'a>(
     alloc: Global,
-    notation: &Notation,
+    _notation: &Notation,
     name: Name,
     text: &'a [u8],
 ) -> Result<Front<'a>, Halt<'a>>
-    ensures read { (m : ℕ) → IsInsideOf (closed (behind_word_at notation.now (type_at notation.now m) name text.now))
-        notation.now m result }
+    ensures read { (m : ℕ) → IsInsideOf (closed (behind_word_at _notation.now (type_at _notation.now m) name text.now))
+        _notation.now m result }
     ensures shorter { IfOk result (OpensWithin (suc (length text.now))) }
 {
-    // The contract alone asks for the notation.
-    let _ = notation;
     match text.split_first() {
         None => Err(Halt::Syntax(text)),
         Some((byte, _)) => {
-            if *byte != 45 {
+            if *byte != b'-' {
                 return Ok(Front::Inside(Open::Argument(name, Vec::new(alloc)), text));
             }
             let rest = literal(text, b"-> ")?;
@@ -240,10 +235,9 @@ fn close<'a>(
     'frames: loop {
         match frames.pop() {
             None => return Ok(Back::Whole(ty, rest)),
-            Some(inside) => match back_of(alloc, notation, inside, ty, rest) {
-                Err(halt) => return Err(halt),
-                Ok(Back::Further(inside, behind)) => return Ok(Back::Further(inside, behind)),
-                Ok(Back::Whole(whole, behind)) => {
+            Some(inside) => match back_of(alloc, notation, inside, ty, rest)? {
+                Back::Further(inside, behind) => return Ok(Back::Further(inside, behind)),
+                Back::Whole(whole, behind) => {
                     ty = whole;
                     rest = behind;
                 }
@@ -281,8 +275,8 @@ fn back_of<'a>(
 }
 
 /// Behind a domain stand the arrow and the range.
-fn back_of_domain<'a>(notation: &Notation, ty: Ty, text: &'a [u8]) -> Result<Back<'a>, Halt<'a>>
-    ensures read { (m : ℕ) → IsBackOf notation.now m Domain (type_of_tree ty) text.now result }
+fn back_of_domain<'a>(_notation: &Notation, ty: Ty, text: &'a [u8]) -> Result<Back<'a>, Halt<'a>>
+    ensures read { (m : ℕ) → IsBackOf _notation.now m Domain (type_of_tree ty) text.now result }
     ensures shorter { IfOk result (EndsWithin (length text.now)) }
 {
     let space = literal(text, b" ")?;
@@ -293,16 +287,14 @@ fn back_of_domain<'a>(notation: &Notation, ty: Ty, text: &'a [u8]) -> Result<Bac
 /// Behind a range the function type ends.
 fn back_of_range<'a>(
     alloc: Global,
-    notation: &Notation,
+    _notation: &Notation,
     domain: Ty,
     ty: Ty,
     text: &'a [u8],
 ) -> Result<Back<'a>, Halt<'a>>
-    ensures read { (m : ℕ) → IsBackOf notation.now m (Range (type_of_tree domain)) (type_of_tree ty) text.now result }
+    ensures read { (m : ℕ) → IsBackOf _notation.now m (Range (type_of_tree domain)) (type_of_tree ty) text.now result }
     ensures shorter { IfOk result (EndsWithin (length text.now)) }
 {
-    // The contract alone asks for the notation.
-    let _ = notation;
     let rest = literal(text, b")")?;
     let whole = function_type(alloc, domain, ty)?;
     Ok(Back::Whole(whole, rest))
@@ -325,7 +317,7 @@ fn back_of_argument<'a>(
     behind_arguments(notation, name, args, text)
 }
 
-/// The same behind the arguments, the last one among them.
+/// Behind all the arguments that were read stands a further one, or the type ends.
 fn behind_arguments<'a>(
     notation: &Notation,
     name: Name,
@@ -343,31 +335,29 @@ fn behind_arguments<'a>(
     }
 }
 
-/// What follows a space.
+/// What follows the space before a further argument, where there is one.
 fn next_argument(text: &[u8]) -> Option<&[u8]>
     ensures none { IfNone result (is_spaced text.now ≡ false) }
     ensures some { IfSome result (λ after. text.now ≡ 32 ∷ after.now) }
 {
     match text {
         [] => None,
-        [byte, after @ ..] => { if *byte == 32 { Some(after) } else { None } }
+        [byte, after @ ..] => { if *byte == b' ' { Some(after) } else { None } }
     }
 }
 
 /// The type ends behind its arguments, which make no function type.
 fn end_arguments<'a>(
-    notation: &Notation,
+    _notation: &Notation,
     name: Name,
     args: Vec<Ty>,
     text: &'a [u8],
 ) -> Result<Back<'a>, Halt<'a>>
     ensures read { (m : ℕ) (ts : List (TypeTree NameValue)) (t : TypeTree NameValue) → map type_of_tree args.items ≡ ts
-        ++ t ∷ [] → further_at notation.now (type_at notation.now m) 0 text.now ≡ Got NoTys text.now
-        → IsBackOf notation.now m (Argument name ts) t text.now result }
+        ++ t ∷ [] → further_at _notation.now (type_at _notation.now m) 0 text.now ≡ Got NoTys text.now
+        → IsBackOf _notation.now m (Argument name ts) t text.now result }
     ensures shorter { IfOk result (EndsWithin (length text.now)) }
 {
-    // The contract alone asks for the notation.
-    let _ = notation;
     if is_arrow(&name, &args) {
         return Err(Halt::Syntax(text));
     }

@@ -27,7 +27,7 @@ pub(crate) struct Value {
     ty: Ty,
     /// The depth of the term, or one past the nesting limit.
     depth: u64,
-    /// The same of its type.
+    /// The depth of its type, or one past the nesting limit.
     type_depth: u64,
     /// Whether the types of all its parts are within the nesting limit.
     has_shallow_types: bool,
@@ -127,7 +127,7 @@ pub(crate) fn copy_type(alloc: Global, ty: &Ty) -> Result<Ty, AllocError>
 }
 
 /// The depth of a type, or one past this limit.
-#[tactic(auto, using(ot_logic::proofs::PlainTrees::type_Var, ot_logic::proofs::PlainTrees::type_Op))]
+#[tactic(auto, using(ot_logic::proofs::PlainTrees::type_steps))]
 fn type_depth(ty: &Ty, limit: u64) -> u64
     requires { limit ≤ depth_limit }
     ensures { result ≡ min (depth_ty names (type_of_tree ty.now)) (suc limit) }

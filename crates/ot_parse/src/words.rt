@@ -8,31 +8,31 @@ ghost use Rattle.ot_forms.specs.Words.{is_part as part_test, is_operator as oper
 pub(crate) fn is_letter(byte: u8) -> bool
     ensures { result ≡ letter_test byte }
 {
-    (65 <= byte && byte <= 90) || (97 <= byte && byte <= 122)
+    byte.is_ascii_alphabetic()
 }
 
 /// A letter, a digit or `_`.
 pub(crate) fn is_inner(byte: u8) -> bool
     ensures { result ≡ inner_test byte }
 {
-    is_letter(byte) || (48 <= byte && byte <= 57) || byte == 95
+    is_letter(byte) || byte.is_ascii_digit() || byte == b'_'
 }
 
 /// One of `/ \ = < > ~ & |`.
 pub(crate) fn is_sign(byte: u8) -> bool
     ensures { result ≡ sign_test byte }
 {
-    byte == 47
-        || byte == 92
-        || byte == 61
-        || byte == 60
-        || byte == 62
-        || byte == 126
-        || byte == 38
-        || byte == 124
+    byte == b'/'
+        || byte == b'\\'
+        || byte == b'='
+        || byte == b'<'
+        || byte == b'>'
+        || byte == b'~'
+        || byte == b'&'
+        || byte == b'|'
 }
 
-/// Whether two texts are one.
+/// Whether two texts are equal.
 pub(crate) fn is_same(left: &[u8], right: &[u8]) -> bool
     ensures { result ≡ text_test left.now right.now }
 {

@@ -1,7 +1,7 @@
 use Rattle.std.proofs.Common.{sym, subst, arith, suc, length}
-use Rattle.std.proofs.lemmas.Result.{err_from_is_err_and}
 use Rattle.ot_parse.specs.Values.{meant_of}
 use Rattle.ot_parse.specs.TermCode.{IsBack}
+use Rattle.ot_parse.proofs.Halts.{handed-on}
 use Rattle.ot_parse.proofs.Lengths.{space-length}
 use Rattle.ot_parse.proofs.TermBacks.{no-space, space-goes}
 use Rattle.ot_parse.proofs.Passing.{term-ends}
@@ -9,8 +9,7 @@ use Rattle.ot_parse.proofs.terms.back_of_first.Goals as goal
 
 pub returns-in_err-rest-clause-read : goal.returns-in_err-rest-clause-read
 returns-in_err-rest-clause-read c = λ h m l d x w.
-    let p = err_from_is_err_and c.from_residual.result c.from_residual.ensures.1 in
-    rw (p.1, p.2)
+    rw (handed-on _ _ c.from_residual.ensures.1)
     (no-space c.args.total h m l c.args.at (meant_of c.args.part) c.args.text.now
     c.in_err-rest.field-0.0 c.in_err-rest.ensures)
 

@@ -1,7 +1,7 @@
-use Rattle.std.proofs.lemmas.Result.{err_from_is_err_and}
 use Rattle.ot_parse.specs.Meant.{sides_of}
 use Rattle.ot_parse.specs.Values.{meant_of, IsWholly}
 use Rattle.ot_parse.specs.Meant.{is_relation, wholly}
+use Rattle.ot_parse.proofs.Halts.{handed-on}
 use Rattle.ot_parse.proofs.TermBacks.{closed-halts, right-whole}
 use Rattle.std.specs.Prelude.{codes}
 use Rattle.std.proofs.Common.{◌≡◌, ◌+◌, length, arith, subst}
@@ -11,8 +11,7 @@ use Rattle.ot_parse.proofs.terms.back_of_right.Goals as goal
 
 pub returns-in_err-rest-clause-read : goal.returns-in_err-rest-clause-read
 returns-in_err-rest-clause-read c = λ n m l k x w.
-    let p = err_from_is_err_and c.from_residual.result c.from_residual.ensures.1 in
-    rw (p.1, p.2)
+    rw (handed-on _ _ c.from_residual.ensures.1)
     (closed-halts n c.args.notation.now m l
     (sides_of c.args.notation.now l c.args.at c.args.operator.now (meant_of c.args.left)
     (wholly l (is_relation c.args.operator.now) c.args.place (meant_of c.args.part))) c.args.text.now

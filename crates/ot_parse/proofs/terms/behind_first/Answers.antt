@@ -5,7 +5,8 @@ use Rattle.ot_parse.proofs.TermBacks.{nothing-behind, sign-goes, argument-in}
 use Rattle.ot_parse.proofs.terms.behind_first.Goals as goal
 
 pub returns-in-None-clause-read : goal.returns-in-None-clause-read
-returns-in-None-clause-read c = λ h m l d x w. nothing-behind c.args.total h m l c.args.at (meant_of c.args.part) c.args.text.now
+returns-in-None-clause-read c = λ h m l d x w.
+    nothing-behind c.args.total h m l c.args.at (meant_of c.args.part) c.args.text.now
     c.in-None.ensures.cases
 
 pub returns-then-is_sign-clause-read : goal.returns-then-is_sign-clause-read

@@ -1,4 +1,4 @@
-use Rattle.std.proofs.lemmas.Result.{err_from_is_err_and}
+use Rattle.ot_parse.proofs.Halts.{handed-on}
 use Rattle.ot_parse.proofs.TermOpens.{body-in, no-binder}
 use Rattle.std.proofs.Common.{[], arith}
 use Rattle.ot_logic.specs.PlainTrees.{type_of_tree}
@@ -7,8 +7,7 @@ use Rattle.ot_parse.proofs.terms.binding_front.Goals as goal
 
 pub returns-in_err-name-clause-read : goal.returns-in_err-name-clause-read
 returns-in_err-name-clause-read c = λ k l h d.
-    let p = err_from_is_err_and c.from_residual.result c.from_residual.ensures.1 in
-    rw (p.1, p.2)
+    rw (handed-on _ _ c.from_residual.ensures.1)
     (no-binder c.args.total c.args.notation.now l c.args.room c.sound.ensures k
     c.args.text.now c.in_err-name.field-0.0 c.in_err-name.ensures)
 

@@ -2,6 +2,7 @@ use Rattle.std.proofs.Common.{arith, subst, length}
 use Rattle.ot_forms.specs.Reading.{Got}
 use Rattle.ot_parse.specs.Values.{meant_of}
 use Rattle.ot_parse.specs.TermCode.{reversed, EndsWithin}
+use Rattle.ot_parse.proofs.Halts.{handed-on}
 use Rattle.ot_parse.proofs.TermLoops.{IsClosedTo, closing-start, closing-step, closing-halts, closing-end}
 use Rattle.ot_parse.proofs.terms.close.Goals as goal
 
@@ -18,35 +19,36 @@ returns-in-None-clause-read c = λ k m w.
     (Got (meant_of c.args.part) c.args.text.now) c.open.frames.items c.open.part c.open.rest.now
     (omega (arith, d, f)) (c.open.invariant.0 k m w)
 
-pub returns-in-Err-clause-read : goal.returns-in-Err-clause-read
-returns-in-Err-clause-read c = λ k m w.
-    closing-halts c.args.total c.args.notation.now (reversed c.args.frames.now.items)
-    (Got (meant_of c.args.part) c.args.text.now) c.open.frames.items c.pop.new.self.items c.in-Some.inside
-    c.open.part c.open.rest.now
-    c.in-Some.ensures.items (c.open.invariant.0 k m w) c.in-Err.halt c.in-Err.ensures.read
+pub returns-in_err-inside-in-Some-clause-read : goal.returns-in_err-inside-in-Some-clause-read
+returns-in_err-inside-in-Some-clause-read c = λ k m w.
+    rw (handed-on _ _ c.from_residual.ensures.1)
+    (closing-halts c.args.total c.args.notation.now (reversed c.args.frames.now.items) (Got (meant_of c.args.part)
+    c.args.text.now) c.open.frames.items c.pop.new.self.items c.in-Some.inside c.open.part c.open.rest.now
+    c.in-Some.ensures.items (c.open.invariant.0 k m w) c.in_err-inside-in-Some.field-0.0
+    c.in_err-inside-in-Some.ensures.read)
 
-pub returns-in-Ok-Further-clause-read : goal.returns-in-Ok-Further-clause-read
-returns-in-Ok-Further-clause-read c = λ k m w.
+pub returns-in-Further-clause-read : goal.returns-in-Further-clause-read
+returns-in-Further-clause-read c = λ k m w.
     let os = reversed c.args.frames.now.items in let o = Got (meant_of c.args.part) c.args.text.now in
-    subst (IsClosedTo c.args.total c.args.notation.now os o c.pop.new.self.items) c.in-Ok-Further.field-0-is
+    subst (IsClosedTo c.args.total c.args.notation.now os o c.pop.new.self.items) c.in-Further.is
     (closing-step c.args.total c.args.notation.now os o c.open.frames.items c.pop.new.self.items c.in-Some.inside
-    c.open.part c.open.rest.now c.in-Some.ensures.items (c.open.invariant.0 k m w) c.in-Ok-Further.field-0
-    c.in-Ok-Further.ensures.read)
+    c.open.part c.open.rest.now c.in-Some.ensures.items (c.open.invariant.0 k m w) c.in_ok-inside-in-Some.field-0
+    c.in_ok-inside-in-Some.ensures.read)
 
 pub open-preserved : goal.open-preserved
 open-preserved c =
-    let b = subst (EndsWithin (length c.open.rest.now)) c.in-Ok-Whole.field-0-is c.in-Ok-Whole.ensures.shorter in
+    let b = subst (EndsWithin (length c.open.rest.now)) c.in-Whole.is c.in_ok-inside-in-Some.ensures.shorter in
     let v = c.open.invariant.1 in (
       (λ k m w.
           let os = reversed c.args.frames.now.items in let o = Got (meant_of c.args.part) c.args.text.now in
-          subst (IsClosedTo c.args.total c.args.notation.now os o c.pop.new.self.items) c.in-Ok-Whole.field-0-is
+          subst (IsClosedTo c.args.total c.args.notation.now os o c.pop.new.self.items) c.in-Whole.is
           (closing-step c.args.total c.args.notation.now os o c.open.frames.items c.pop.new.self.items
           c.in-Some.inside c.open.part c.open.rest.now c.in-Some.ensures.items (c.open.invariant.0 k m w)
-          c.in-Ok-Whole.field-0 c.in-Ok-Whole.ensures.read)),
+          c.in_ok-inside-in-Some.field-0 c.in_ok-inside-in-Some.ensures.read)),
       omega (arith, b, v),
     )
 
-pub returns-in-Ok-Further-clause-shorter : goal.returns-in-Ok-Further-clause-shorter
-returns-in-Ok-Further-clause-shorter c =
-    let b = subst (EndsWithin (length c.open.rest.now)) c.in-Ok-Further.field-0-is c.in-Ok-Further.ensures.shorter in
+pub returns-in-Further-clause-shorter : goal.returns-in-Further-clause-shorter
+returns-in-Further-clause-shorter c =
+    let b = subst (EndsWithin (length c.open.rest.now)) c.in-Further.is c.in_ok-inside-in-Some.ensures.shorter in
     let v = c.open.invariant.1 in omega (arith, b, v)

@@ -9,7 +9,8 @@ use Rattle.ot_parse.proofs.Passing.{term-leaf}
 use Rattle.ot_parse.proofs.terms.front_of.Goals as goal
 
 pub returns-in-None-clause-read : goal.returns-in-None-clause-read
-returns-in-None-clause-read c = λ h. nothing-front c.args.total c.args.notation.now (around (frames_of c.args.frames.now))
+returns-in-None-clause-read c = λ h.
+    nothing-front c.args.total c.args.notation.now (around (frames_of c.args.frames.now))
     c.args.room c.args.text.now c.in-None.ensures.cases
 
 pub returns-then-room-eq0-clause-read : goal.returns-then-room-eq0-clause-read
@@ -49,7 +50,8 @@ returns-then-byte-eq40-clause-shorter c = rw c.in-Some.ensures.cases.0 c.inside.
 pub returns-then-byte-eq123-clause-shorter : goal.returns-then-byte-eq123-clause-shorter
 returns-then-byte-eq123-clause-shorter c =
     term-leaf (length c.args.text.now) []
-    (mapped (raw c.args.notation.now [] 0) (closed_constant_at c.args.notation.now (c.args.room - 1) c.in-Some.after.now))
+    (mapped (raw c.args.notation.now [] 0)
+    (closed_constant_at c.args.notation.now (c.args.room - 1) c.in-Some.after.now))
     c.constant_front.result (c.constant_front.ensures 0 [])
 
 pub returns-else-byte-eq123-clause-shorter : goal.returns-else-byte-eq123-clause-shorter

@@ -8,7 +8,8 @@ use Rattle.ot_parse.proofs.Passing.{term-leaf, term-opens}
 use Rattle.ot_parse.proofs.terms.inside.Goals as goal
 
 pub returns-in-None-clause-read : goal.returns-in-None-clause-read
-returns-in-None-clause-read c = λ h d. nothing-inside c.args.total c.args.notation.now (around (frames_of c.args.frames.now))
+returns-in-None-clause-read c = λ h d.
+    nothing-inside c.args.total c.args.notation.now (around (frames_of c.args.frames.now))
     c.args.room c.args.at c.args.text.now c.in-None.ensures.cases
 
 pub returns-then-byte-eq92-clause-read : goal.returns-then-byte-eq92-clause-read

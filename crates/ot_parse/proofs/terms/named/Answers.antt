@@ -1,7 +1,7 @@
 use Rattle.std.proofs.Common.{◌∙◌, sym, suc, length, [], arith}
-use Rattle.std.proofs.lemmas.Result.{err_from_is_err_and}
 use Rattle.ot_parse.specs.TermFrames.{around, closed_free_at}
 use Rattle.ot_parse.specs.TermCode.{frames_of}
+use Rattle.ot_parse.proofs.Halts.{handed-on}
 use Rattle.ot_parse.proofs.TermOpens.{no-word, no-word-space, free-inside, head-in, bare-shorter}
 use Rattle.ot_forms.specs.Reading.{mapped}
 use Rattle.ot_parse.specs.Meant.{raw}
@@ -10,15 +10,13 @@ use Rattle.ot_parse.proofs.terms.named.Goals as goal
 
 pub returns-in_err-name-clause-read : goal.returns-in_err-name-clause-read
 returns-in_err-name-clause-read c = λ h d.
-    let p = err_from_is_err_and c.from_residual.result c.from_residual.ensures.1 in
-    rw (p.1, p.2)
+    rw (handed-on _ _ c.from_residual.ensures.1)
     (no-word c.args.total c.args.notation.now (around (frames_of c.args.frames.now)) c.args.room
     c.args.at c.args.text.now c.in_err-name.field-0.0 c.in_err-name.ensures)
 
 pub returns-in_err-rest-clause-read : goal.returns-in_err-rest-clause-read
 returns-in_err-rest-clause-read c = λ h d.
-    let p = err_from_is_err_and c.from_residual-in_err-rest.result c.from_residual-in_err-rest.ensures.1 in
-    rw (p.1, p.2)
+    rw (handed-on _ _ c.from_residual-in_err-rest.ensures.1)
     (no-word-space c.args.total c.args.notation.now (around (frames_of c.args.frames.now)) c.args.room c.args.at
     c.args.text.now c.in_ok-name.name c.in_ok-name.end.now c.in_err-rest.field-0.0 c.in_ok-name.ensures
     c.in_err-rest.ensures)

@@ -1,21 +1,19 @@
 use Rattle.std.proofs.Common.{refl, arith}
-use Rattle.std.proofs.lemmas.Result.{err_from_is_err_and}
 use Rattle.ot_parse.specs.Values.{meant_of}
+use Rattle.ot_parse.proofs.Halts.{handed-on}
 use Rattle.ot_parse.proofs.TermBacks.{no-signs, no-sign-space, operator-in}
 use Rattle.ot_parse.proofs.Lengths.{signs-length, space-length}
 use Rattle.ot_parse.proofs.terms.operator.Goals as goal
 
 pub returns-in_err-word-clause-read : goal.returns-in_err-word-clause-read
 returns-in_err-word-clause-read c = λ h m l d x w.
-    let p = err_from_is_err_and c.from_residual.result c.from_residual.ensures.1 in
-    rw (p.1, p.2)
+    rw (handed-on _ _ c.from_residual.ensures.1)
     (no-signs c.args.total h m l c.args.at (meant_of c.args.part) c.args.text.now
     c.in_err-word.field-0.0 c.in_err-word.ensures)
 
 pub returns-in_err-rest-clause-read : goal.returns-in_err-rest-clause-read
 returns-in_err-rest-clause-read c = λ h m l d x w.
-    let p = err_from_is_err_and c.from_residual-in_err-rest.result c.from_residual-in_err-rest.ensures.1 in
-    rw (p.1, p.2)
+    rw (handed-on _ _ c.from_residual-in_err-rest.ensures.1)
     (no-sign-space c.args.total h m l c.args.at (meant_of c.args.part)
     c.args.text.now c.in_ok-word.word.now c.in_ok-word.end.now c.in_err-rest.field-0.0 c.in_ok-word.ensures
     c.in_err-rest.ensures)

@@ -8,19 +8,21 @@ use Rattle.ot_parse.proofs.Lengths.{literal-length, space-length}
 use Rattle.ot_parse.proofs.types.back_of_domain.Goals as goal
 
 pub returns-in_err-space-clause-read : goal.returns-in_err-space-clause-read
-returns-in_err-space-clause-read c = λ m. handed-back c.args.notation.now m Domain (type_of_tree c.args.ty) c.args.text.now
+returns-in_err-space-clause-read c = λ m.
+    handed-back c.args._notation.now m Domain (type_of_tree c.args.ty) c.args.text.now
     c.from_residual.result c.in_err-space.field-0.0 c.from_residual.ensures.1
-    (no-space c.args.notation.now m (type_of_tree c.args.ty) c.args.text.now c.in_err-space.field-0.0
+    (no-space c.args._notation.now m (type_of_tree c.args.ty) c.args.text.now c.in_err-space.field-0.0
     c.in_err-space.ensures)
 
 pub returns-in_err-rest-clause-read : goal.returns-in_err-rest-clause-read
-returns-in_err-rest-clause-read c = λ m. handed-back c.args.notation.now m Domain (type_of_tree c.args.ty) c.args.text.now
+returns-in_err-rest-clause-read c = λ m.
+    handed-back c.args._notation.now m Domain (type_of_tree c.args.ty) c.args.text.now
     c.from_residual-in_err-rest.result c.in_err-rest.field-0.0 c.from_residual-in_err-rest.ensures.1
-    (no-arrow c.args.notation.now m (type_of_tree c.args.ty) c.args.text.now c.in_ok-space.space.now
+    (no-arrow c.args._notation.now m (type_of_tree c.args.ty) c.args.text.now c.in_ok-space.space.now
     c.in_err-rest.field-0.0 c.in_ok-space.ensures c.in_err-rest.ensures)
 
 pub returns-clause-read : goal.returns-clause-read
-returns-clause-read c = λ m. after-domain c.args.notation.now (type_at c.args.notation.now m) (type_of_tree c.args.ty)
+returns-clause-read c = λ m. after-domain c.args._notation.now (type_at c.args._notation.now m) (type_of_tree c.args.ty)
     c.args.text.now c.in_ok-space.space.now c.in_ok-rest.rest.now c.in_ok-space.ensures c.in_ok-rest.ensures
 
 pub returns-clause-shorter : goal.returns-clause-shorter

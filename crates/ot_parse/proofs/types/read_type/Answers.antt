@@ -3,4 +3,4 @@ use Rattle.ot_parse.specs.Frames.{BeginsWithin}
 use Rattle.ot_parse.proofs.types.read_type.Goals as goal
 
 pub types-smaller : goal.types-smaller
-types-smaller c = subst (BeginsWithin (length c.types.rest.now)) c.in-Ok-Begins.field-0-is c.in-Ok-Begins.ensures.shorter
+types-smaller c = subst (BeginsWithin (length c.types.rest.now)) c.in-Begins.is c.in_ok-ty.ensures.shorter

@@ -15,4 +15,5 @@ returns-in-Some c = λ l hx hy px py.
     operator-made c.args.notation.now l c.args.at c.args.operator.now (term_of_tree c.args.left.term)
     (term_of_tree c.args.right.term)
     c.in-Some.name.now c.joined.result
-    (sym (constant-is c.args.notation.now [] c.args.operator.now) ∙ sym c.in-Some.ensures) (c.joined.ensures l hx hy px py)
+    (sym (constant-is c.args.notation.now [] c.args.operator.now) ∙ sym c.in-Some.ensures)
+    (c.joined.ensures l hx hy px py)
