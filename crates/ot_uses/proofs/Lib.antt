@@ -10,7 +10,9 @@ mod Using
 mod Lines
 mod Renamed
 mod Numbering
-mod Marking
+mod Rising
+mod Placed
+mod Leading
 mod Standing
 mod Found
 mod Exports

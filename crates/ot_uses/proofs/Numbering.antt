@@ -13,7 +13,7 @@ use Rattle.std.proofs.lemmas.List.{length-map, get_or-map}
 use Rattle.ot_uses.specs.Placing.{picked}
 use Rattle.ot_uses.specs.Used.{beside_places, places_in, same}
 
-abbrev Placed : Type 0 → Type 0
+abbrev pub Placed : Type 0 → Type 0
 Placed X = ℕ × X
 
 -- the same places, with other items
@@ -77,10 +77,10 @@ items-firsts of t k xs =
     ∙ ap (filter t) (sym (firsts-map (λ p. p.1) of (beside_places k xs)) ∙ ap (firsts_by same of) (items-numbered k xs))
 
 -- a member stands at its place
-abbrev IsAt : {X : Type 0} → List X → ℕ → Placed X → Type 0
+abbrev pub IsAt : {X : Type 0} → List X → ℕ → Placed X → Type 0
 IsAt {X} xs k p = (i : ℕ) × (p.0 ≡ i + k) × (i < length xs) × ((d : X) → get_or xs i d ≡ p.1)
 
-numbered-at : {X : Type 0} (k : ℕ) (xs : List X) (p : Placed X) → IsMember p (beside_places k xs) → IsAt xs k p
+pub numbered-at : {X : Type 0} (k : ℕ) (xs : List X) (p : Placed X) → IsMember p (beside_places k xs) → IsAt xs k p
 numbered-at k [] p m = absurd m
 numbered-at k (x ∷ xs) p (inl e) = (
   0,

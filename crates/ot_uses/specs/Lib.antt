@@ -4,4 +4,5 @@ pub mod Sound
 pub mod Suffices
 pub mod Texts
 pub mod Placing
+pub mod Ready
 pub mod Picked

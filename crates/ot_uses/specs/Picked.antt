@@ -2,9 +2,9 @@
 -- of it.
 use Rattle.std.specs.Prelude.{ℕ}
 use Rattle.ot_kernel.specs.State.{State, theorem_at}
+use Rattle.ot_leads.specs.declared.finding.Uses.{Uses}
 use Rattle.ot_uses.specs.Placing.{picked}
 use Rattle.ot_uses.specs.Used.{Support}
-use Rattle.ot_uses.specs.declared.places.Uses.{Uses}
 
 abbrev pub support_in : State → ℕ → Uses → Support
 support_in s th u = record {

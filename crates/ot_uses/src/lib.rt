@@ -3,10 +3,8 @@
 
 mod finding;
 mod laws;
-mod places;
 mod text;
 
-pub use finding::uses;
+pub use finding::{leads_of, uses};
 pub use laws::{run_soundness_law, uses_law};
-pub use places::Uses;
 pub use text::uses_text;

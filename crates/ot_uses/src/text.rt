@@ -1,5 +1,5 @@
 //! The text of what theorems rest on.
-ghost use Rattle.std.specs.Prelude.{◌≡◌, ◌<◌, ◌++◌, ◌∷◌, [], codes, length, map, OnOk, OnErr, IfOk, Err};
+ghost use Rattle.std.specs.Prelude.{◌≡◌, ◌<◌, ◌++◌, ◌∷◌, [], ℕ, List, codes, length, map, OnOk, OnErr, IfOk, Err};
 ghost use Rattle.std.specs.List.{All};
 ghost use Rattle.ot_text.specs.Gathered.{bytes_in, texts_of};
 ghost use Rattle.ot_text.specs.Pages.{Appended, IsPut, printed};
@@ -7,12 +7,13 @@ ghost use Rattle.ot_text.specs.Texts.{ascending, number_text, sequent_text};
 ghost use Rattle.ot_machine.specs.Meaning.{export_of, run_of, IsExportIn, IsRun};
 ghost use Rattle.ot_uses.specs.Picked.{support_in};
 ghost use Rattle.ot_uses.specs.Placing.{picked};
+ghost use Rattle.ot_uses.specs.Ready.{theorem_steps, IsReady};
 ghost use Rattle.ot_uses.specs.Texts.{counted_text, support_text, uses_text as text_of};
 ghost use Rattle.ot_uses.specs.Used.{support_of};
 
-use crate::finding::uses;
-use crate::places::Uses;
+use crate::finding::{leads_of, uses};
 use ot_kernel::{Kernel, ThmId};
+use ot_leads::{Leads, Uses};
 use ot_logic::Memory;
 use ot_machine::{Export, Session};
 use ot_print::InKernel;
@@ -24,8 +25,7 @@ use std::collections::BTreeSet;
 /// rests on: the assumptions in the order of the bytes of their texts, the definitions in the order in which they
 /// were accepted.
 ///
-/// The exports are of the session. The trace is walked once for each export, and nothing is printed that isn't in the
-/// text.
+/// The exports are of the session. The trace is walked once, and nothing is printed that isn't in the text.
 /// `TooLarge` exactly where the text has more than `max` bytes. After a refusal `out` is as it was.
 pub fn uses_text(
     alloc: Global,
@@ -54,22 +54,51 @@ fn put_exports(page: &mut Page, alloc: Global, session: &Session, exports: &[Exp
     ensures { IsPut (text_of (run_of session.now) (map (export_of session.now) exports.now))
         (printed page.old) (printed page.new) }
 {
+    match leads_of(alloc, session, exports) {
+        Ok(mut leads) => put_each(page, alloc, session, &mut leads, exports),
+        Err(memory) => page.stop(PrintFault::Memory(memory)),
+    }
+}
+
+/// The exports in order, with their numbers, by what steps lead to.
+fn put_each(
+    page: &mut Page,
+    alloc: Global,
+    session: &Session,
+    leads: &mut Leads,
+    exports: &[Export],
+)
+    requires run { IsRun session.now }
+    requires exports { All (IsExportIn session.now) exports.now }
+    requires ready { IsReady session.now (theorem_steps exports.now) leads.old }
+    ensures { IsPut (text_of (run_of session.now) (map (export_of session.now) exports.now))
+        (printed page.old) (printed page.new) }
+{
     for (i, export) in exports.iter().enumerate() {
-        put_export(page, alloc, session, i + 1, export);
+        put_export(page, alloc, session, leads, i + 1, export);
     }
 }
 
 /// An export with what it rests on, behind its number.
-fn put_export(page: &mut Page, alloc: Global, session: &Session, number: usize, export: &Export)
+fn put_export(
+    page: &mut Page,
+    alloc: Global,
+    session: &Session,
+    leads: &mut Leads,
+    number: usize,
+    export: &Export,
+)
     requires run { IsRun session.now }
     requires export { IsExportIn session.now export.now }
-    ensures { IsPut (support_text number (support_of (run_of session.now) (export_of session.now export.now)))
+    requires ready { IsReady session.now (export.now.theorem ∷ []) leads.old }
+    ensures put { IsPut (support_text number (support_of (run_of session.now) (export_of session.now export.now)))
         (printed page.old) (printed page.new) }
+    ensures ready { (roots : List ℕ) → IsReady session.now roots leads.old → IsReady session.now roots leads.new }
 {
     if page.is_stopped() {
         return;
     }
-    match uses(alloc, session, export.theorem) {
+    match uses(alloc, session, leads, export.theorem) {
         Ok(used) => put_support(page, alloc, session.kernel(), number, export.th, &used),
         Err(memory) => page.stop(PrintFault::Memory(memory)),
     }

@@ -25,8 +25,8 @@ put_support-requires-clause-definitions c =
     (subst (λ l. All (λ i. i < length s.kernel.definitions) l) (sym c.in-Ok.ensures.definitions)
     (definitions-inside s c.requires.run (origin_of s c.args.export.now.theorem)))
 
-pub returns-in-Ok : goal.returns-in-Ok
-returns-in-Ok c =
+pub returns-in-Ok-clause-put : goal.returns-in-Ok-clause-put
+returns-in-Ok-clause-put c =
     let s = c.args.session.now in
     let r = run_of s in
     let o = origin_of s c.args.export.now.theorem in
@@ -44,5 +44,5 @@ returns-in-Ok c =
       definitions = definitions z;
     })) c.put_support.ensures
 
-pub returns-in-Err : goal.returns-in-Err
-returns-in-Err c = record { state = inl c.stop.ensures }
+pub returns-in-Err-clause-put : goal.returns-in-Err-clause-put
+returns-in-Err-clause-put c = record { state = inl c.stop.ensures }
