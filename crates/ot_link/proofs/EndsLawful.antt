@@ -6,8 +6,8 @@ use Rattle.std.specs.Str.{bytes_eq}
 use Rattle.std.proofs.Common.{ℕ, zero, suc, List, [], ◌∷◌, map, Bool, true, false}
 use Rattle.std.proofs.lemmas.List.Elements.{All-nil, All-append}
 use Rattle.ot_scan.specs.Lines.{Lines, Finished, Broken, Next, lines_of}
-use Rattle.ot_theory.specs.Theory.{BlockText}
-use Rattle.ot_blocks.specs.Structure.{source_of, block_places}
+use Rattle.ot_theory.specs.Theory.{BlockText, TheoryText}
+use Rattle.ot_blocks.specs.Structure.{source_of, block_places, plan}
 use Rattle.ot_blocks.specs.Paths.{article_path, package_path}
 use Rattle.ot_machine.specs.States.{Export, RunState, State, Context, fresh_article, fresh_run, no_context}
 use Rattle.ot_machine.specs.Run as articles
@@ -20,11 +20,11 @@ use Rattle.ot_machine.proofs.NamedAll.{all-named}
 use Rattle.ot_machine.proofs.RunLawful.{fresh-lawful, run-lawful, lawful-stays}
 use Rattle.ot_blocks.specs.declared.fault.StructureFault.TheVariants.{PackageCycle, PackageDepth}
 use Rattle.ot_link.specs.Stops.{Stop, InStructure, Linked, answered, go_on, ◌>>=◌, Setting, file_at}
-use Rattle.ot_link.specs.Planned.{Planned, planned}
+use Rattle.ot_link.specs.Planned.{Planned, in_structure}
 use Rattle.ot_link.specs.Blocks.{Ran, Opener, Source, FromArticle, FromPackage, FromImports, article_end}
 use Rattle.ot_link.specs.Blocks.{context_in, run_article, run_source, source_at, run_block, given_by}
 use Rattle.ot_link.specs.Link.{Done, none_done, with_done, imported, run_at, run_blocks, exports_at}
-use Rattle.ot_link.specs.Link.{run_planned, text_at, run_file, opener, link}
+use Rattle.ot_link.specs.Link.{run_planned, theory_at, run_theory, run_file, opener, link}
 use Rattle.ot_link.specs.Laws.{IsAnyName, IsLawfulRan, EndsAreLawful}
 use Rattle.ot_link.proofs.Lawful.{given-lawful, once-all}
 
@@ -207,11 +207,15 @@ module _ (e : Setting) (opener : Opener) (opens : OpenerLeaves opener) (path : L
 
   -- ---- a theory file
 
+  read-leaves : (t : TheoryText) → RunLeaves (λ outer r. run_theory e opener path outer r t)
+  read-leaves t outer r ready =
+      bind-any (answered (in_structure path (plan t.blocks)))
+      (λ p. run_planned e opener path outer r (record { blocks = t.blocks; plan = p })) (Leaves r)
+      (λ p. plan-leaves (record { blocks = t.blocks; plan = p }) outer r ready)
+
   theory-leaves : RunLeaves (run_file e opener path)
   theory-leaves outer r ready =
-      bind-any (text_at e path) (λ text. answered (planned path text) >>= run_planned e opener path outer r) (Leaves r)
-      (λ text. bind-any (answered (planned path text)) (run_planned e opener path outer r) (Leaves r)
-      (λ f. plan-leaves f outer r ready))
+      bind-any (theory_at e path) (run_theory e opener path outer r) (Leaves r) (λ t. read-leaves t outer r ready)
 
 -- ---- packages
 

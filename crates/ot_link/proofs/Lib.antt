@@ -6,8 +6,8 @@ pub mod Ending
 pub mod Finding
 -- A link in parts.
 pub mod Parts
--- The plan of a theory file, from its parts.
-pub mod Planning
+-- The theory file of a path, and what goes on with it.
+pub mod TheoryFiles
 -- The blocks of a theory file that has a plan.
 pub mod Runnable
 -- The interpretation of a block, one statement at a time.
@@ -19,7 +19,7 @@ pub mod InBlock
 -- What the statements of a block name.
 pub mod Saying
 pub mod Naming
--- How a package is opened, and how a theory file is run.
+-- How a package is opened, and how a theory file that was read is run.
 pub mod Opened
 -- Blocks in their order, one after another.
 pub mod Sequence
@@ -35,4 +35,3 @@ pub mod Lawful
 pub mod EndsLawful
 -- What the run of an article or a block leaves.
 pub mod Leaving
-pub mod FileTags

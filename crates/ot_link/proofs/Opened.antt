@@ -1,25 +1,23 @@
--- How a package is opened, and how a theory file is run.
+-- How a package is opened, and how a theory file that was read is run.
 use Rattle.std.specs.Prelude.{◌||◌, Vec, Result, Ok, Err}
 use Rattle.std.specs.Global.{Global}
 use Rattle.std.specs.List.{list_any}
 use Rattle.std.specs.Str.{bytes_eq}
 use Rattle.std.proofs.Common.{◌≡◌, ◌∙◌, ℕ, zero, suc, List, [], ◌∷◌, ◌++◌, Bool, true, false, refl, sym, ap}
 use Rattle.ot_kernel.specs.State as kernel
-use Rattle.ot_theory.specs.Theory.{TheoryText, theory}
+use Rattle.ot_theory.specs.Theory.{TheoryText}
 use Rattle.ot_blocks.specs.Structure.{PlanText, plan}
 use Rattle.ot_blocks.specs.Paths.{package_path}
 use Rattle.ot_blocks.specs.declared.fault.StructureFault.TheVariants.{PackageCycle, PackageDepth}
 use Rattle.ot_machine.specs.States.{Context, RunState}
-use Rattle.ot_link.specs.Stops.{Stop, InStructure, Linked, answered, ◌>>=◌, Setting}
-use Rattle.ot_link.specs.Planned.{in_theory, in_structure, planned}
+use Rattle.ot_link.specs.Stops.{InStructure, Linked, answered, Setting}
+use Rattle.ot_link.specs.Planned.{in_structure}
 use Rattle.ot_link.specs.Blocks.{Ran, Opener}
-use Rattle.ot_link.specs.Link.{unless_open, opener, text_at, run_file, run_planned}
+use Rattle.ot_link.specs.Link.{unless_open, opener, run_file, run_theory, run_planned}
 use Rattle.ot_link.specs.Answers.{Stops, Comes}
 use Rattle.ot_link.specs.Running.{chain_of}
 use Rattle.ot_link.specs.declared.fault.LinkFault.{LinkFault}
-use Rattle.ot_link.specs.declared.fault.LinkFault.TheVariants as link
-use Rattle.ot_link.proofs.Parts.{IsRest, stops-first, stops-rest, comes-rest, rest-next, rest-on}
-use Rattle.ot_link.proofs.Planning.{planned-unparsed, planned-unordered, planned-ordered}
+use Rattle.ot_link.proofs.Parts.{stops-first, comes-rest, rest-next}
 
 -- ---- packages
 
@@ -61,52 +59,20 @@ module _ (e : Setting) (chain : List (List ℕ)) (path : List ℕ) (line : ℕ) 
 
 -- ---- theory files
 
-module _ (k : kernel.State) where
-  stops-answered : {A B : Type 0} (a : Result A Stop) (b : Result B Stop) → ((s : Stop) → a ≡ Err s → b ≡ Err s)
-      → (e : LinkFault) → Stops k e (answered a) → Stops k e (answered b)
-  stops-answered a b f (link.Article path line fault) h = (h.0, h.1, f _ h.2)
-  stops-answered a b f (link.Theory path line fault) h = f _ h
-  stops-answered a b f (link.Structure path line fault) h = f _ h
-  stops-answered a b f (link.TheoryTooLarge path) h = f _ h
-  stops-answered a b f (link.NoFile path) h = f _ h
-  stops-answered a b f (link.ReadFault path) h = h
-  stops-answered a b f (link.Memory memory) h = tt
+module _ (k : kernel.State) (e : Setting) (opener : Opener) (path : List ℕ) (outer : Context) (r : RunState)
+    (t : TheoryText) where
+  abbrev blocks_run : PlanText → Linked Ran
+  blocks_run p = run_planned e opener path outer r (record { blocks = t.blocks; plan = p })
 
-module _ (k : kernel.State) (e : Setting) (opener : Opener) (path : List ℕ) (outer : Context) (r : RunState) where
-  abbrev rest-of_text : (text : List ℕ) → Linked Ran
-  rest-of_text text = answered (planned path text) >>= run_planned e opener path outer r
+  -- its blocks have no plan
+  pub theory-unplanned : (err : LinkFault) → Stops k err (answered (in_structure path (plan t.blocks)))
+      → Stops k err (run_theory e opener path outer r t)
+  theory-unplanned err h = stops-first k (answered (in_structure path (plan t.blocks))) blocks_run err h
 
-  -- the text isn't read
-  pub file-unread : (err : LinkFault) → Stops k err (text_at e path) → Stops k err (run_file e opener path outer r)
-  file-unread err h = stops-first k (text_at e path) rest-of_text err h
-
-  module _ (text : List ℕ) (is : (text_at e path).answer ≡ Ok text) where
-    behind_text : IsRest (rest-of_text text) (run_file e opener path outer r)
-    behind_text = rest-next (text_at e path) rest-of_text text is
-
-    unplanned : {A : Type 0} (a : Result A Stop) → ((s : Stop) → a ≡ Err s → planned path text ≡ Err s)
-        → (err : LinkFault) → Stops k err (answered a) → Stops k err (run_file e opener path outer r)
-    unplanned a f err h =
-        stops-rest k _ _ behind_text err
-        (stops-first k (answered (planned path text)) (run_planned e opener path outer r) err
-        (stops-answered k a (planned path text) f err h))
-
-    -- the text is no theory file
-    pub file-unparsed : (err : LinkFault) → Stops k err (answered (in_theory path (theory text)))
-        → Stops k err (run_file e opener path outer r)
-    file-unparsed = unplanned (in_theory path (theory text)) (planned-unparsed path text)
-
-    -- its blocks have no plan
-    pub file-unplanned : (t : TheoryText) → in_theory path (theory text) ≡ Ok t → (err : LinkFault)
-        → Stops k err (answered (in_structure path (plan t.blocks))) → Stops k err (run_file e opener path outer r)
-    file-unplanned t u = unplanned (in_structure path (plan t.blocks)) (planned-unordered path text t u)
-
-    -- its blocks run
-    pub file-ran : {X : Type 0} (t : TheoryText) (p : PlanText) (view : X → Ran) (x : Result X LinkFault)
-        → in_theory path (theory text) ≡ Ok t → in_structure path (plan t.blocks) ≡ Ok p
-        → Comes k view x (run_planned e opener path outer r (record { blocks = t.blocks; plan = p }))
-        → Comes k view x (run_file e opener path outer r)
-    file-ran t p view x u v h =
-        comes-rest k _ _
-        (rest-on (rest-next (answered (planned path text)) (run_planned e opener path outer r) _
-        (planned-ordered path text t u p v)) behind_text) view x h
+  -- its blocks run
+  pub theory-ran : {X : Type 0} (p : PlanText) (view : X → Ran) (x : Result X LinkFault)
+      → in_structure path (plan t.blocks) ≡ Ok p
+      → Comes k view x (run_planned e opener path outer r (record { blocks = t.blocks; plan = p }))
+      → Comes k view x (run_theory e opener path outer r t)
+  theory-ran p view x v h =
+      comes-rest k _ _ (rest-next (answered (in_structure path (plan t.blocks))) blocks_run p v) view x h

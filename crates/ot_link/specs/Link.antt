@@ -3,13 +3,13 @@ use Rattle.std.specs.Prelude.{ℕ, zero, suc, List, [], ◌∷◌, ◌++◌, ◌
 use Rattle.std.specs.Prelude.{slice_index_or, Option, Some, None, Ok, Err, if◌then◌else◌}
 use Rattle.std.specs.List.{list_any}
 use Rattle.std.specs.Str.{bytes_eq}
-use Rattle.ot_theory.specs.Theory.{BlockText}
-use Rattle.ot_blocks.specs.Structure.{block_places}
+use Rattle.ot_theory.specs.Theory.{BlockText, TheoryText, theory}
+use Rattle.ot_blocks.specs.Structure.{block_places, plan}
 use Rattle.ot_blocks.specs.Paths.{package_path}
 use Rattle.ot_blocks.specs.declared.fault.StructureFault.TheVariants.{PackageCycle, PackageDepth}
 use Rattle.ot_machine.specs.States.{Export, RunState, Context, fresh_run, no_context}
 use Rattle.ot_link.specs.Stops.{InStructure, Linked, answered, ◌>>=◌, Setting, file_at}
-use Rattle.ot_link.specs.Planned.{Planned, within, planned}
+use Rattle.ot_link.specs.Planned.{Planned, within, in_theory, in_structure}
 use Rattle.ot_link.specs.Blocks.{Ran, Opener, run_block}
 
 -- ---- the blocks of a file
@@ -56,11 +56,19 @@ run_planned e opener path outer r f =
 abbrev pub text_at : Setting → List ℕ → Linked (List ℕ)
 text_at e path = file_at e path >>= λ bytes. answered (within e.limits.theory_bytes path bytes)
 
+-- the theory file of a path
+abbrev pub theory_at : Setting → List ℕ → Linked TheoryText
+theory_at e path = text_at e path >>= λ text. answered (in_theory path (theory text))
+
+-- a theory file that was read, in an outer context; a fault of its structure comes before those of the run
+abbrev pub run_theory : Setting → Opener → List ℕ → Context → RunState → TheoryText → Linked Ran
+run_theory e opener path outer r t =
+    answered (in_structure path (plan t.blocks)) >>= λ p.
+    run_planned e opener path outer r (record { blocks = t.blocks; plan = p })
+
 -- the theory file of a path, in an outer context
 abbrev pub run_file : Setting → Opener → List ℕ → Context → RunState → Linked Ran
-run_file e opener path outer r =
-    text_at e path >>= λ text.
-    answered (planned path text) >>= run_planned e opener path outer r
+run_file e opener path outer r = theory_at e path >>= run_theory e opener path outer r
 
 -- ---- packages
 
@@ -78,6 +86,10 @@ opener (suc left) e chain path line full c r =
     (run_file e (opener left e (chain ++ full ∷ []) (package_path e.packages full)) (package_path e.packages full) c
     r)
 
--- the theory file of a path and all that it asks for, from no assumption and no definition
+-- a theory file that was read, and all that it asks for, from no assumption and no definition
+abbrev pub link_theory : Setting → List ℕ → TheoryText → Linked Ran
+link_theory e path = run_theory e (opener e.limits.package_depth e [] path) path no_context fresh_run
+
+-- the theory file of a path and all that it asks for
 abbrev pub link : Setting → List ℕ → Linked Ran
-link e path = run_file e (opener e.limits.package_depth e [] path) path no_context fresh_run
+link e path = theory_at e path >>= link_theory e path

@@ -1,9 +1,9 @@
 -- A theory file before its blocks run.
 use Rattle.std.specs.Prelude.{ℕ, List, Result, Ok, Err, length, nat_le}
 use Rattle.ot_logic.specs.Answers.{◌>>=◌, unless}
-use Rattle.ot_theory.specs.Theory.{BlockText, theory}
+use Rattle.ot_theory.specs.Theory.{BlockText}
 use Rattle.ot_theory.specs.declared.fault.TheoryFault.{TheoryFault}
-use Rattle.ot_blocks.specs.Structure.{PlanText, plan}
+use Rattle.ot_blocks.specs.Structure.{PlanText}
 use Rattle.ot_blocks.specs.declared.fault.StructureFault.{StructureFault}
 use Rattle.ot_link.specs.Stops.{Stop, InTheory, InStructure, TooLarge}
 
@@ -25,10 +25,3 @@ in_structure path (Err fault) = Err (InStructure path fault.0 fault.1)
 -- the text of a theory file, which has at most so many bytes
 abbrev pub within : ℕ → List ℕ → List ℕ → Result (List ℕ) Stop
 within limit path bytes = unless (TooLarge path) (nat_le (length bytes) limit) >>= λ fits. Ok bytes
-
--- a text's blocks and plan: the faults of the grammar come before those of the blocks
-abbrev pub planned : List ℕ → List ℕ → Result Planned Stop
-planned path text =
-    in_theory path (theory text) >>= λ t.
-    in_structure path (plan t.blocks) >>= λ p.
-    Ok (record { blocks = t.blocks; plan = p })

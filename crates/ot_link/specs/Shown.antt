@@ -4,10 +4,9 @@ use Rattle.std.specs.List.{flat_map}
 use Rattle.std.specs.Str.{bytes_eq}
 use Rattle.ot_logic.specs.Names.{Name}
 use Rattle.ot_logic.specs.Reading.{name_read}
-use Rattle.ot_theory.specs.Theory.{TagText, theory}
+use Rattle.ot_theory.specs.Theory.{TagText}
 use Rattle.ot_link.specs.Stops.{Linked, Setting, answered, ◌>>=◌}
-use Rattle.ot_link.specs.Planned.{in_theory}
-use Rattle.ot_link.specs.Link.{text_at}
+use Rattle.ot_link.specs.Link.{theory_at}
 
 -- one name, where there is one
 abbrev pub at_most_one : Option Name → List Name
@@ -24,7 +23,4 @@ shown_by_all ts = flat_map shown_by ts
 
 -- those of the theory file of a path
 abbrev pub shown : Setting → List ℕ → Linked (List Name)
-shown e path =
-    text_at e path >>= λ text.
-    answered (in_theory path (theory text)) >>= λ t.
-    answered (Ok (shown_by_all t.tags))
+shown e path = theory_at e path >>= λ t. answered (Ok (shown_by_all t.tags))

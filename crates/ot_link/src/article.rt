@@ -26,8 +26,8 @@ use ot_logic::{Limits, Memory};
 use ot_machine::{ArticleFault, Context, Export, Fault, Machine, Session, fresh_law, lines_law};
 use std::alloc::Global;
 
-/// Runs the article of a path, and gives its exports.
-pub(crate) fn run_article<F: Files>(
+/// Opens the article of a path, runs it, and gives its exports.
+pub(crate) fn open_article<F: Files>(
     setting: Setting<'_>,
     session: &mut Session,
     files: &mut F,
@@ -126,7 +126,7 @@ fn run_named<S: Source>(
     ensures cause { IfErr result (λ e. HasFailed e (S.faults source.old) (S.faults source.new)) }
     ensures kept { KeepsSource S.folder S.faults S.misses S.at source.old source.new }
 {
-    match run_source(setting, session, source, context) {
+    match article_exports(setting, session, source, context) {
         Ok(exports) => Ok(exports),
         Err(ArticleFault::At { line, fault }) => Err(LinkFault::Article { path, line, fault }),
         Err(ArticleFault::ReadFault) => Err(LinkFault::ReadFault { path }),
@@ -135,7 +135,7 @@ fn run_named<S: Source>(
 }
 
 /// Runs the article that a source has left, and gives its exports.
-fn run_source<S: Source>(
+fn article_exports<S: Source>(
     setting: Setting<'_>,
     session: &mut Session,
     source: &mut S,

@@ -5,29 +5,30 @@ ghost use Rattle.std.specs.List.{All, list_any};
 ghost use Rattle.std.specs.Str.{bytes_eq};
 ghost use Rattle.ot_io.specs.Keeping.{KeepsFiles};
 ghost use Rattle.ot_io.specs.Readings.{HasReadFiles};
-ghost use Rattle.ot_theory.specs.Answers.{block_of, blocks_of, tags_of};
+ghost use Rattle.ot_theory.specs.Answers.{block_of, blocks_of, tags_of, theory_of};
+ghost use Rattle.ot_theory.specs.Sound.{IsSound};
 ghost use Rattle.ot_blocks.specs.Paths.{is_package};
 ghost use Rattle.ot_blocks.specs.Answers.{plan_of};
 ghost use Rattle.ot_machine.specs.Meaning.{export_of, run_of, IsExportIn};
 ghost use Rattle.ot_machine.specs.Contexts.{context_of};
 ghost use Rattle.ot_link.specs.Blocks.{source_at, run_source, run_block};
-ghost use Rattle.ot_link.specs.Link.{imported, run_at, run_planned, run_file};
+ghost use Rattle.ot_link.specs.Link.{imported, run_at, run_planned, run_theory, run_file};
 ghost use Rattle.ot_link.specs.Answers.{AreWithin, setting_of, Comes, ran_of, NamesSymbolIn, HasCause};
 ghost use Rattle.ot_link.specs.Holding.{held_at, held_of, done_of};
 ghost use Rattle.ot_link.specs.Running.{chain_of, first_source, opener_of, source_value, IsRunnable, IsSourceRight};
 ghost use Rattle.ot_link.specs.Lawful.{AreLawfulExports, AreLawfulOnce, IsReady, LeavesExports};
 
-use crate::article::run_article;
+use crate::article::open_article;
 use crate::exports::{each_once, given_to, imported};
 use crate::fault::LinkFault;
-use crate::reading::{plan_at, theory_at, theory_text};
+use crate::reading::{plan_at, theory_in, theory_text};
 use crate::renaming::{interpretation_of, naming_law};
 use crate::setting::Setting;
 use ot_blocks::{Plan, StructureFault, article_path, package_path};
 use ot_io::Files;
 use ot_logic::Memory;
 use ot_machine::{Context, Export, Session, stays_law};
-use ot_theory::{Block, Key, Tag, key_of};
+use ot_theory::{Block, Key, Tag, Theory, key_of};
 use std::alloc::Global;
 use std::collections::HashMap;
 
@@ -151,7 +152,7 @@ fn run_source<'x, F: Files>(
     match source {
         Source::Article(value) => {
             let path = article_path(setting.alloc, &file.path, value)?;
-            run_article(setting, session, files, context, path)
+            open_article(setting, session, files, context, path)
         }
         Source::Package(line, full) => {
             open_package(setting, session, files, file, context, line, full)
@@ -342,9 +343,32 @@ pub(crate) fn link_file<F: Files>(
         (F.faults files.new) (F.at files.new)) }
     ensures kept { KeepsFiles F.folder F.faults F.misses files.old files.new }
 {
-    let alloc = setting.alloc;
     let text = theory_text(setting, files, &file.path)?;
-    let theory = theory_at(alloc, &file.path, &text)?;
-    let plan = plan_at(alloc, &file.path, &theory.blocks)?;
+    let theory = theory_in(setting.alloc, &file.path, &text)?;
+    run_theory(setting, session, files, file, &theory)
+}
+
+/// Runs a theory file that was read, and gives the exports of its block `main`.
+#[cycle(linking)]
+pub(crate) fn run_theory<F: Files>(
+    setting: Setting<'_>,
+    session: &mut Session,
+    files: &mut F,
+    file: &File<'_>,
+    theory: &Theory<'_>,
+) -> Result<Vec<Export>, LinkFault>
+    requires limits { AreWithin setting.limits.now }
+    requires ready { IsReady session.old file.now.outer.now }
+    requires sound { IsSound (theory_of theory.now) }
+    ensures comes { HasReadFiles (F.folder files.old) (λ folder. Comes session.new.kernel (ran_of session.new) result
+        (run_theory (setting_of folder setting.entry) (opener_of (setting_of folder setting.entry) file.now)
+        (string_bytes file.now.path)
+        (context_of session.old file.now.outer.now) (run_of session.old) (theory_of theory.now))) }
+    ensures left { LeavesExports NamesSymbolIn result session.old session.new }
+    ensures cause { IfErr result (λ e. HasCause e (F.misses files.old) (F.misses files.new) (F.faults files.old)
+        (F.faults files.new) (F.at files.new)) }
+    ensures kept { KeepsFiles F.folder F.faults F.misses files.old files.new }
+{
+    let plan = plan_at(setting.alloc, &file.path, &theory.blocks)?;
     run_blocks(setting, session, files, file, &theory.blocks, &plan)
 }

@@ -15,5 +15,6 @@ mod showing;
 pub use article::run_alone;
 pub use fault::LinkFault;
 pub use laws::ends_law;
-pub use linking::link;
+pub use linking::{link, link_theory};
+pub use reading::{read_theory, theory_in};
 pub use showing::shown;

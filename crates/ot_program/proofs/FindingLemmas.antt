@@ -12,7 +12,7 @@ use Rattle.std.proofs.lemmas.Simd.{map-map}
 use Rattle.std.proofs.lemmas.List.Elements.{All-append, All-cons}
 use Rattle.ot_logic.specs.Answers.{◌>>=◌}
 use Rattle.ot_logic.specs.Names.{Name}
-use Rattle.ot_logic.specs.Trees.{Tm, Sequent}
+use Rattle.ot_logic.specs.Trees.{Tm, Sequent, Symbol}
 use Rattle.ot_logic.specs.Lists.{IsMember}
 use Rattle.ot_logic.specs.declared.memory.Memory.{Memory as NoMemory}
 use Rattle.ot_io.specs.Causes.{CountRose}
@@ -31,6 +31,8 @@ use Rattle.ot_machine.specs.declared.machine.Export.{Export}
 use Rattle.ot_machine.specs.declared.session.Session.{Session}
 use Rattle.ot_link.specs.Stops.{Stop}
 use Rattle.ot_link.specs.Blocks.{Ran}
+use Rattle.ot_forms.specs.Refusals.{IsTermRefused}
+use Rattle.ot_forms.specs.Words.{IsNotation}
 use Rattle.ot_forms.specs.declared.fault.TextFault.{TextFault}
 use Rattle.ot_find.specs.Matches.{Found, matches, matches_in, MatchesAreThose, MatchesOfOneMore}
 use Rattle.ot_find.specs.Texts.{HasFound}
@@ -45,15 +47,17 @@ use Rattle.ot_program.specs.Runs.{exports_of}
 use Rattle.ot_program.specs.Command.{run_lists, IsProved, LastInput, LeavesOther}
 use Rattle.ot_program.specs.FindPattern.{FindStop, InRequired, InRun, InPattern, PackageRun, Searched, search}
 use Rattle.ot_program.specs.FindPattern.{package_runs, required_at, find_at, sources, found, required_status}
-use Rattle.ot_program.specs.FindPattern.{pattern_path, IsSearchFile, OfWalk, OfPackage}
+use Rattle.ot_program.specs.FindPattern.{pattern_path, IsSearchFile, OfWalk, OfPackage, IsPatternStop}
 use Rattle.ot_program.specs.Answer.{IsResult, FileFailed}
-use Rattle.ot_program.specs.Verdicts.{AnswersIn, ran_from, noted_of, ending_of, HasEnded, AtStop, AtFailure, IfEnded}
-use Rattle.ot_program.specs.Verdicts.{IsWalkVerdict, HasEndedWalk, HasEndedInput, HasEndedPattern, HasEndedRun}
-use Rattle.ot_program.specs.Verdicts.{HasEndedRuns, HasEndedBehind, AtPattern, AtRuns, HasEndedSearch, IsPattern}
-use Rattle.ot_program.specs.Verdicts.{IsRunFile, HasMatches, IsSearched, AreSearched, HasSearchedBehind, HasSearched}
-use Rattle.ot_program.specs.Verdicts.{searched_of, FoundEndsAs, source_of, EndsWalk, EndsInput, EndsRun, EndsRuns, EndsBehind}
-use Rattle.ot_program.specs.Verdicts.{EndsSearch, IsSaid, End, Finished, Stopped, Failed, HasTaskEnd, HasTheoryEnd}
-use Rattle.ot_program.specs.Verdicts.{IsStopVerdict, IsTaskVerdict, IsVerdictOn, noted_end}
+use Rattle.ot_program.specs.Endings.{ran_from, noted_of, End, Finished, Stopped, Failed, HasTaskEnd, HasTheoryEnd}
+use Rattle.ot_program.specs.Endings.{noted_end}
+use Rattle.ot_program.specs.Verdicts.{IsSaid, IsStopVerdict, IsTaskVerdict, IsVerdictOn}
+use Rattle.ot_program.specs.Searches.{AnswersIn, ending_of, HasEnded, AtStop, AtFailure, IfEnded, IsWalkVerdict}
+use Rattle.ot_program.specs.Searches.{HasEndedWalk, HasEndedInput, HasEndedPattern, HasEndedRun, HasEndedRuns}
+use Rattle.ot_program.specs.Searches.{HasEndedBehind, AtPattern, AtRuns, HasEndedSearch, IsPattern, IsRunFile}
+use Rattle.ot_program.specs.Searches.{HasMatches, IsSearched, AreSearched, HasSearchedBehind, HasSearched, searched_of}
+use Rattle.ot_program.specs.Searches.{FoundEndsAs, source_of, EndsWalk, EndsInput, EndsRun, EndsRuns, EndsBehind}
+use Rattle.ot_program.specs.Searches.{EndsSearch}
 use Rattle.ot_program.specs.declared.finding.Ending.{Ending}
 use Rattle.ot_program.specs.declared.finding.Ending.TheVariants as endings
 use Rattle.ot_program.specs.declared.noted.NotedRun.{NotedRun}
@@ -218,13 +222,21 @@ input_last P (Some e) last v said = last
 -- ---- the pattern
 
 pub pattern_ended : (n : Noted) (pattern : List ℕ) (column : ℕ) (fault : TextFault) → 0 < column
+    → (hidden : List (Symbol Name)) → IsNotation hidden → IsTermRefused hidden pattern (column - 1) fault
     → term_read (notation n) pattern ≡ Err (column - 1, fault)
     → (v : Verdict) → IsSaid v Refused (column_line pattern_path 1 column fault) → HasEndedPattern n pattern v
-pattern_ended n pattern column fault first is v said =
+pattern_ended n pattern column fault first hidden is_notation by is v said =
     let same : column - 1 + 1 ≡ column = omega (arith, first) in
     let refused : RefusedLine = record { line = 1; column = column; fault = fault } in
+    let own : IsPatternStop pattern refused = record {
+      line_is = refl;
+      column_is = first;
+      hidden = hidden;
+      notation = is_notation;
+      is_refused = by;
+    } in
     AtStop refused said (ap (at_line 1) is ∙ ap (λ k. Err (record { line = 1; column = k; fault = fault })) same)
-    refl (λ none. no_file none)
+    own (λ none. no_file none)
 
 -- ---- an item of a list, between those before and behind it
 

@@ -32,8 +32,9 @@ use Rattle.ot_program.specs.Tasks.{RunInput, is_standard}
 use Rattle.ot_program.specs.Runs.{limits, article_limit, start, outcome, theory_run, standard_run, article_run}
 use Rattle.ot_program.specs.Runs.{run_at, IsOwnStop, IsInputStop}
 use Rattle.ot_program.specs.Answer.{FileFailed}
-use Rattle.ot_program.specs.Verdicts.{End, Finished, Stopped, Failed, end_of, IsAnswer, HasTaskCause, HasTaskEnd}
-use Rattle.ot_program.specs.Verdicts.{HasOwnCause, HasTheoryCause, HasTheoryEnd, IsLawfulEnd, IsLawfulEnds}
+use Rattle.ot_program.specs.Endings.{End, Finished, Stopped, Failed, end_of, IsAnswer, HasTaskCause, HasTaskEnd}
+use Rattle.ot_program.specs.Endings.{HasOwnCause, HasTheoryCause, HasTheoryEnd}
+use Rattle.ot_program.specs.Verdicts.{IsLawfulEnd, IsLawfulEnds}
 use Rattle.ot_program.specs.declared.task.View.{View}
 use Rattle.ot_program.proofs.Options.{if_some}
 use Rattle.ot_program.proofs.TaskEnds.{every_some, task_ended, input_path, file_path}

@@ -14,7 +14,7 @@ use Rattle.ot_program.specs.Tasks.{CheckLog, is_standard}
 use Rattle.ot_program.specs.Runs.{article_limit}
 use Rattle.ot_program.specs.Command.{IsProved}
 use Rattle.ot_program.specs.CheckLog.{LogStop, NoLog, log_lists, log_end, check_bytes, check_file, log_status}
-use Rattle.ot_program.specs.Verdicts.{End, Finished, log_end_of, IsAnswer, HasCause, HasTaskCause, HasTaskEnd}
+use Rattle.ot_program.specs.Endings.{End, Finished, log_end_of, IsAnswer, HasCause, HasTaskCause, HasTaskEnd}
 use Rattle.ot_program.specs.Verdicts.{EndsAs, IsVerdictOf}
 use Rattle.ot_program.specs.declared.report.Verdict.{Verdict}
 use Rattle.ot_program.specs.declared.log.LogRefusal.{LogRefusal}

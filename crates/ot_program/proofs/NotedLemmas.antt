@@ -1,11 +1,9 @@
 -- The run of an input with its notation.
-use Rattle.std.proofs.Common.{◌≡◌, ℕ, ◌<◌, ◌≤◌, List, [], length, map, refl}
-use Rattle.std.proofs.Common.{sym, ap, subst, ◌∙◌, inl, inr, ◌⊎◌, arith}
-use Rattle.std.specs.Prelude.{min, ◌+◌, Bool, true, false, codes, nat_le, MatchBool, Option, Some}
-use Rattle.std.specs.Prelude.{None, IfSome, IsSomeAnd, Result, Ok, Err, IfOk, OnOk, Vec, String}
-use Rattle.std.specs.Global.{Global}
+use Rattle.std.proofs.Common.{◌≡◌, ℕ, ◌<◌, ◌≤◌, List, [], ◌∷◌, ◌++◌, length, map, refl}
+use Rattle.std.proofs.Common.{sym, ap, subst, ◌∙◌, inl, inr, ◌⊎◌, append-nil, arith}
+use Rattle.std.specs.Prelude.{min, ◌+◌, Bool, true, false, if◌then◌else◌, nat_le, MatchBool, Option, Some}
+use Rattle.std.specs.Prelude.{None, IfSome, IsSomeAnd, Result, Ok, Err, IfOk, IfErr, OnOk, string_bytes}
 use Rattle.std.specs.Option.{option_map}
-use Rattle.std.specs.Prelude.{string_bytes}
 use Rattle.std.proofs.lemmas.Simd.{map-map}
 use Rattle.std.proofs.Math.Nat.{min-le_left, min-le_right, le-min}
 use Rattle.std.proofs.lemmas.Bool.{lt-leb}
@@ -14,128 +12,210 @@ use Rattle.ot_logic.specs.Faults.{Fault}
 use Rattle.ot_logic.specs.Trees.{Sequent, Definition}
 use Rattle.ot_logic.specs.Lists.{IsMember}
 use Rattle.ot_logic.specs.declared.limits.Limits.{Limits}
+use Rattle.ot_logic.proofs.Members.{IsMember-left, IsMember-right}
 use Rattle.ot_io.specs.Causes.{CountRose}
 use Rattle.ot_io.specs.Folder.{Folder}
 use Rattle.ot_io.specs.Readings.{HasReadFiles}
 use Rattle.ot_io.proofs.Keeping.{KeepsFiles-then}
-use Rattle.ot_io.proofs.Readings.{Files-none, Files-map}
 use Rattle.ot_args.specs.Grammar.{is_theory}
+use Rattle.ot_theory.specs.Theory.{TheoryText}
 use Rattle.ot_kernel.specs.State.{State, theorem_at}
 use Rattle.ot_machine.specs.Meaning.{IsRun}
 use Rattle.ot_machine.specs.declared.machine.Export.{Export}
 use Rattle.ot_machine.specs.declared.session.Session.{Session}
-use Rattle.ot_link.specs.Stops.{Stop, InArticle, InTheory, InStructure, TooLarge, Missing, Linked}
+use Rattle.ot_link.specs.Stops.{Stop, InArticle, InTheory, InStructure, TooLarge, Missing, Linked, Setting}
+use Rattle.ot_link.specs.Stops.{answered, go_on, ◌>>=◌}
 use Rattle.ot_link.specs.Blocks.{Ran}
-use Rattle.ot_link.specs.Shown.{shown}
-use Rattle.ot_link.specs.Answers.{Comes, HasCause as HasLinkCause}
+use Rattle.ot_link.specs.Link.{theory_at, link_theory}
+use Rattle.ot_link.specs.Shown.{shown_by_all}
+use Rattle.ot_link.specs.Answers.{Stops, Comes, HasCause as HasLinkCause}
 use Rattle.ot_link.specs.declared.fault.LinkFault.{LinkFault}
 use Rattle.ot_link.specs.declared.fault.LinkFault.TheVariants as faults
+use Rattle.ot_link.proofs.Parts.{rest-next, stops-first}
 use Rattle.ot_text.specs.Pages.{Appended}
 use Rattle.ot_print.specs.Laws.{TextsNameOne}
 use Rattle.ot_pretty.specs.Summary.{ReadBack, hidden_in_run, readable_summary, hidden_at, summary_at}
 use Rattle.ot_program.specs.Texts.{large_line}
 use Rattle.ot_program.specs.World.{World, Every, HasReadWorld}
 use Rattle.ot_program.specs.Tasks.{RunInput, ShowReadable, is_standard}
-use Rattle.ot_program.specs.Runs.{Noted, limits, theory_shown, shown_at, noted, run_at, opened_at, notation}
-use Rattle.ot_program.specs.Runs.{assumptions_of, definitions_of, exports_of, summary_limit, stop_status}
+use Rattle.ot_program.specs.Runs.{Noted, limits, theory_run, theory_shown, shown_at, noted, noted_at, run_at}
+use Rattle.ot_program.specs.Runs.{opened_at, opened_noted}
+use Rattle.ot_program.specs.Runs.{notation, assumptions_of, definitions_of, exports_of, summary_limit, stop_status}
 use Rattle.ot_program.specs.Runs.{IsInputStop}
-use Rattle.ot_program.specs.Command.{run_lists, IsProved, LeavesOther}
+use Rattle.ot_program.specs.Command.{run_lists, IsProved, LeavesOther, LastInput}
 use Rattle.ot_program.specs.ShowReadable.{readable, AreReadBack}
 use Rattle.ot_program.specs.Answer.{FileFailed, ClosesFiles}
-use Rattle.ot_program.specs.Verdicts.{End, Finished, Stopped, Failed, ran_from, noted_from, noted_end, end_at}
-use Rattle.ot_program.specs.Verdicts.{IsAnswer, HasCause, HasTaskCause, HasTaskEnd, IsSaid, IsStopVerdict}
-use Rattle.ot_program.specs.Verdicts.{IsVerdictOf}
-use Rattle.ot_program.specs.Verdicts.{ReadableEndsAs}
+use Rattle.ot_program.specs.Endings.{End, Finished, Stopped, Failed, ran_from, noted_from, noted_end, end_at, noted_of}
+use Rattle.ot_program.specs.Endings.{noted_end_of, theory_noted, IsAnswer, HasCause, HasTaskCause, HasTaskEnd}
+use Rattle.ot_program.specs.Verdicts.{IsSaid, IsStopVerdict, IsVerdictOf, ReadableEndsAs}
+use Rattle.ot_program.specs.Reply.{command}
+use Rattle.ot_program.specs.declared.noted.NotedRun.{NotedRun}
 use Rattle.ot_program.specs.declared.report.Verdict.{Verdict}
 use Rattle.ot_program.specs.declared.status.Status.TheVariants.{Accepted, Refused}
 use Rattle.ot_program.specs.declared.task.View.{View}
 use Rattle.ot_program.proofs.RunLemmas.{assumptions_are, definitions_are, exports_are}
 use Rattle.ot_program.proofs.LimitLemmas.{text_printed, text_too_large}
-use Rattle.ot_logic.proofs.Members.{IsMember-left, IsMember-right}
-use Rattle.ot_program.proofs.InputLemmas.{theory_stop, no_standard}
+use Rattle.ot_program.proofs.InputLemmas.{theory_stop, no_standard, theory_is}
 use Rattle.ot_program.proofs.TaskEnds.{task_ended, file_path}
-use Rattle.ot_program.proofs.Worlds.{IsPart, HasFolders, folder_of, folder_then_world, world_of_files}
-use Rattle.ot_program.specs.Reply.{command}
+use Rattle.ot_program.proofs.Worlds.{world_of_files}
 
--- ---- what an input shows
+-- ---- a theory file with what it shows
 
--- what a theory file shows, with the limits of the program
-theory_comes : (r : Result (Vec Name Global) LinkFault) (path : List ℕ) (folder : Folder) (l : Limits) → l ≡ limits
-    → ((k : State) → Comes k (λ ns. ns.items) r (shown (record { folder = folder; packages = []; limits = l }) path))
-    → (k : State) → Comes k (λ ns. ns.items) r (theory_shown path folder)
-unfolding theory_shown
-theory_comes r path folder l same comes k =
-    subst (λ (m : Limits). Comes k (λ ns. ns.items) r
-    (shown (record { folder = folder; packages = []; limits = m }) path))
-    same (comes k)
+abbrev with_shown : TheoryText → Ran → Linked Noted
+with_shown t r = answered (Ok (record { shown = shown_by_all t.tags; ran = r }))
 
-pub shown_comes : (r : Result (Vec Name Global) LinkFault) (path : List ℕ) (told : Option Folder) (l : Limits)
-    → l ≡ limits → is_theory path ≡ true
-    → HasReadFiles told (λ folder. (k : State)
-    → Comes k (λ ns. ns.items) r (shown (record { folder = folder; packages = []; limits = l }) path))
-    → HasReadFiles told (λ folder. (k : State) → Comes k (λ ns. ns.items) r (shown_at path folder))
-shown_comes r path told l same theory comes =
-    Files-map told _ _ (λ folder c. rw theory (theory_comes r path folder l same c)) comes
+-- what goes on with the file
+abbrev pub noted_from_theory : Setting → List ℕ → TheoryText → Linked Noted
+noted_from_theory e path t = link_theory e path t >>= with_shown t
 
--- an article shows nothing
-pub article_shows : (names : Vec Name Global) (path : List ℕ) (told : Option Folder) → is_theory path ≡ false
-    → names.items ≡ []
-    → HasReadFiles told (λ folder. (k : State) → Comes k (λ (ns : Vec Name Global). ns.items) (Ok names)
-    (shown_at path folder))
-article_shows names path told article none =
-    Files-none told _ (λ folder k. rw article (ap Ok (sym none)))
+module _ (e : Setting) (path : List ℕ) (t : TheoryText) where
+  -- its run stops
+  pub noted_stopped : (k : State) (err : LinkFault) → Stops k err (link_theory e path t)
+      → Stops k err (noted_from_theory e path t)
+  noted_stopped k err h = stops-first k (link_theory e path t) (with_shown t) err h
 
--- ---- the end of the run
+  -- it ends
+  pub noted_ended : (ns : List Name) (r : Ran) → ns ≡ shown_by_all t.tags → (link_theory e path t).answer ≡ Ok r
+      → (noted_from_theory e path t).answer ≡ Ok (record { shown = ns; ran = r })
+  noted_ended ns r same h =
+      (rest-next (link_theory e path t) (with_shown t) r h).answer
+      ∙ ap (λ xs. Ok (record { shown = xs; ran = r })) (sym same)
 
-abbrev pub Shows : Result (Vec Name Global) LinkFault → Linked (List Name) → Type 0
-Shows r x = (k : State) → Comes k (λ (ns : Vec Name Global). ns.items) r x
+-- under the limits of the program
+pub program_limits : {X : Type 0} (k : State) (view : X → Noted) (r : Result X LinkFault) (packages path : List ℕ)
+    (folder : Folder) (l : Limits) → l ≡ limits
+    → Comes k view r (theory_noted (record { folder = folder; packages = packages; limits = l }) path)
+    → Comes k view r (theory_noted (record { folder = folder; packages = packages; limits = limits }) path)
+program_limits k view r packages path folder l same comes =
+    subst (λ (m : Limits). Comes k view r
+    (theory_noted (record { folder = folder; packages = packages; limits = m }) path)) same comes
 
--- after what is shown
-ends : (k : State) (names : Vec Name Global) (x : Linked (List Name)) (ran : Linked Ran) (e : End Ran Stop)
-    → Shows (Ok names) x → IsAnswer ran.answer e → IsAnswer (noted x.answer ran.answer) (noted_end names.items e)
-ends k names x ran (Finished r) shows ended = λ i. noted (shows k i) (ended i)
-ends k names x ran (Stopped s) shows ended = λ i. noted (shows k i) (ended i)
-ends k names x ran (Failed path) shows ended = tt
+-- ---- its end
 
--- by a stop of what is shown
-stop_first : (x : Linked (List Name)) (ran : Result Ran Stop) (s : Stop) → x.answer ≡ Err s
-    → noted x.answer ran ≡ Err s
-stop_first x ran s is = ap (λ a. noted a ran) is
+abbrev names_shown : TheoryText → Linked (List Name)
+names_shown t = answered (Ok (shown_by_all t.tags))
 
-article_stop : (x : Linked (List Name)) (ran : Result Ran Stop) (path : List ℕ) (line : ℕ) (o : Option (Fault Name))
-    → (f : Fault Name) × (o ≡ Some f) × (x.answer ≡ Err (InArticle path line f))
-    → let ended : Option (End Ran Stop) = option_map (λ f. Stopped (InArticle path line f)) o in
-    IfSome (option_map (noted_end []) ended) (IsAnswer (noted x.answer ran))
-article_stop x ran path line o is = rw is.1 (stop_first x ran (InArticle path line is.0) is.2)
+-- it is that of what the file shows and of its run, and needs what these do
+module _ (ps : List (List ℕ)) (next : TheoryText → Linked Ran) where
+  abbrev both : Result TheoryText Stop → Linked Noted
+  both a = go_on ps a (λ t. next t >>= with_shown t)
 
-stops : (k : State) (e : LinkFault) (x : Linked (List Name)) (ran : Result Ran Stop) → Shows (Err e) x
-    → IfSome (option_map (noted_end []) (end_at k e)) (IsAnswer (noted x.answer ran))
-stops k (faults.Article path line fault) x ran comes = article_stop x ran (string_bytes path) line _ (comes k)
-stops k (faults.Theory path line fault) x ran comes = stop_first x ran _ (comes k)
-stops k (faults.Structure path line fault) x ran comes = stop_first x ran _ (comes k)
-stops k (faults.TheoryTooLarge path) x ran comes = stop_first x ran _ (comes k)
-stops k (faults.NoFile path) x ran comes = stop_first x ran _ (comes k)
-stops k (faults.ReadFault path) x ran comes = tt
-stops k (faults.Memory memory) x ran comes = tt
+  both_answer : (a : Result TheoryText Stop)
+      → (both a).answer ≡ noted (go_on ps a names_shown).answer (go_on ps a next).answer
+  both_answer (Err stop) = refl
+  both_answer (Ok t) = by (next t).paths (next t).answer
+    where
+      by : (qs : List (List ℕ)) (b : Result Ran Stop)
+          → (go_on qs b (with_shown t)).answer ≡ noted (Ok (shown_by_all t.tags)) b
+      by qs (Ok r) = refl
+      by qs (Err stop) = refl
 
--- a stop is the same whatever is shown
-same_article : (ns : List Name) (path : List ℕ) (line : ℕ) (o : Option (Fault Name))
-    → let ended : Option (End Ran Stop) = option_map (λ f. Stopped (InArticle path line f)) o in
-    option_map (noted_end ns) ended ≡ option_map (noted_end []) ended
-same_article ns path line None = refl
-same_article ns path line (Some f) = refl
+  both_needed : (a : Result TheoryText Stop) (file : List ℕ) → IsMember file (both a).paths
+      → IsMember file ((go_on ps a names_shown).paths ++ (go_on ps a next).paths)
+  both_needed (Err stop) file m = IsMember-left file ps ps m
+  both_needed (Ok t) file m =
+      IsMember-right file (ps ++ []) (ps ++ (next t).paths) (by (next t).paths (next t).answer m)
+    where
+      by : (qs : List (List ℕ)) (b : Result Ran Stop) → IsMember file (ps ++ (go_on qs b (with_shown t)).paths)
+          → IsMember file (ps ++ qs)
+      by qs (Ok r) m = subst (λ xs. IsMember file (ps ++ xs)) (append-nil qs) m
+      by qs (Err stop) m = m
 
-pub same_stop : (ns : List Name) (k : State) (e : LinkFault)
-    → option_map (noted_end ns) (end_at k e) ≡ option_map (noted_end []) (end_at k e)
-same_stop ns k (faults.Article path line fault) = same_article ns (string_bytes path) line _
-same_stop ns k (faults.Theory path line fault) = refl
-same_stop ns k (faults.Structure path line fault) = refl
-same_stop ns k (faults.TheoryTooLarge path) = refl
-same_stop ns k (faults.NoFile path) = refl
-same_stop ns k (faults.ReadFault path) = refl
-same_stop ns k (faults.Memory memory) = refl
+-- a stop is answered
+stop_answer : (k : State) (e : LinkFault) (l : Linked Noted) → Stops k e l
+    → IfSome (option_map (noted_end []) (end_at k e)) (IsAnswer l.answer)
+stop_answer k (faults.Article p line fault) l stops = rw stops.1 stops.2
+stop_answer k (faults.Theory p line fault) l stops = stops
+stop_answer k (faults.Structure p line fault) l stops = stops
+stop_answer k (faults.TheoryTooLarge p) l stops = stops
+stop_answer k (faults.NoFile p) l stops = stops
+stop_answer k (faults.ReadFault p) l stops = tt
+stop_answer k (faults.Memory memory) l stops = tt
 
--- ---- its cause
+noted_answer : (s : Session) (r : Result NotedRun LinkFault) (l : Linked Noted)
+    → Comes s.kernel (noted_of s) r l → IfSome (noted_end_of s r) (IsAnswer l.answer)
+noted_answer s (Ok run) l comes = comes
+noted_answer s (Err e) l comes = stop_answer s.kernel e l comes
+
+-- the stop of an article has its cause
+article_cause : (P : Stop → Type 0) (Q : List ℕ → Type 0) (M : Type 0) (p : List ℕ) (line : ℕ)
+    (o : Option (Fault Name)) → ((f : Fault Name) → P (InArticle p line f))
+    → let e : Option (End Ran Stop) = option_map (λ f. Stopped (InArticle p line f)) o in
+    IfSome (option_map (noted_end []) e) (HasCause stop_status P Q M)
+article_cause P Q M p line None own = tt
+article_cause P Q M p line (Some f) own = (own f, λ is. absurd cc)
+
+module _ (packages path : List ℕ) (is : is_theory path ≡ true) where
+  abbrev setting : Folder → Setting
+  setting folder = record { folder = folder; packages = packages; limits = limits }
+
+  theory_answer : (world : World) → (theory_noted (setting world.folder) path).answer ≡ noted_at packages path world
+  unfolding theory_shown theory_run
+  theory_answer world =
+      let e = setting world.folder in
+      both_answer (theory_at e path).paths (link_theory e path) (theory_at e path).answer
+      ∙ (λ i. noted (if sym is i then theory_shown path world.folder else answered (Ok [])).answer
+      (sym (theory_is packages path world is) i).answer)
+
+  theory_opens : (folder : Folder) → (theory_shown path folder).paths ++ (theory_run packages path folder).paths
+      ≡ opened_noted packages path folder
+  theory_opens folder =
+      λ i. (if sym is i then theory_shown path folder else answered (Ok [])).paths
+      ++ (if sym (no_standard path is) i then [] else if sym is i then (theory_run packages path folder).paths
+      else path ∷ [])
+
+  theory_needed : (folder : Folder) (file : List ℕ) → IsMember file (theory_noted (setting folder) path).paths
+      → IsMember file (opened_noted packages path folder)
+  unfolding theory_shown theory_run
+  theory_needed folder file m =
+      let e = setting folder in
+      subst (λ (files : List (List ℕ)). IsMember file files) (theory_opens folder)
+      (both_needed (theory_at e path).paths (link_theory e path) (theory_at e path).answer file m)
+
+  -- it has its cause
+  module _ (May : World → Type 0) (I : Type 0) (at : Option (List ℕ)) (m m' f f' : ℕ) where
+    abbrev HasOne : Option (End Noted Stop) → Type 0
+    HasOne o = IfSome o (HasTaskCause (ShowReadable packages path) May I (FileFailed at f f') (CountRose m m'))
+
+    stop_cause : (k : State) (e : LinkFault)
+        → Every May (λ world. Stops k e (theory_noted (setting world.folder) path)) → HasLinkCause e m m' f f' at
+        → HasOne (option_map (noted_end []) (end_at k e))
+    stop_cause k (faults.Article p line fault) stops cause =
+        article_cause (IsInputStop path) ((command (ShowReadable packages path)).IsFailed May I (FileFailed at f f'))
+        (CountRose m m') (string_bytes p) line _ (λ g. theory_stop path (InArticle (string_bytes p) line g) is)
+    stop_cause k (faults.Theory p line fault) stops cause =
+        (theory_stop path (InTheory (string_bytes p) line fault) is, λ none. absurd cc)
+    stop_cause k (faults.Structure p line fault) stops cause =
+        (theory_stop path (InStructure (string_bytes p) line fault) is, λ none. absurd cc)
+    stop_cause k (faults.TheoryTooLarge p) stops cause =
+        (theory_stop path (TooLarge (string_bytes p)) is, λ none. absurd cc)
+    stop_cause k (faults.NoFile p) stops cause = (theory_stop path (Missing (string_bytes p)) is, λ none. cause)
+    stop_cause k (faults.ReadFault p) stops cause =
+        file_path path _ I (FileFailed at f f') (string_bytes p) (no_standard path is)
+        (λ world may. theory_needed world.folder (string_bytes p) (stops world may)) cause
+    stop_cause k (faults.Memory memory) stops cause = tt
+
+    noted_cause : (s : Session) (r : Result NotedRun LinkFault)
+        → Every May (λ world. Comes s.kernel (noted_of s) r (theory_noted (setting world.folder) path))
+        → IfErr r (λ e. HasLinkCause e m m' f f' at) → HasOne (noted_end_of s r)
+    noted_cause s (Ok run) comes cause = tt
+    noted_cause s (Err e) comes cause = stop_cause s.kernel e comes cause
+
+  -- it ends as is stated of each world that may be
+  pub theory_noted_ran : (told : Option Folder) (left : Option (List ℕ)) (s : Session) (r : Result NotedRun LinkFault)
+      (I : Type 0) (at : Option (List ℕ)) (m m' f f' : ℕ)
+      → HasReadFiles told (λ folder. Comes s.kernel (noted_of s) r (theory_noted (setting folder) path))
+      → IfErr r (λ e. HasLinkCause e m m' f f' at)
+      → HasReadWorld told left left (λ May. IfSome (noted_end_of s r)
+      (λ e. HasTaskEnd (ShowReadable packages path) I (FileFailed at f f') (CountRose m m') e May))
+  theory_noted_ran told left s r I at m m' f f' comes cause =
+      world_of_files told left _ _ (λ May comes.
+      task_ended (ShowReadable packages path) I (FileFailed at f f') (CountRose m m') May (noted_end_of s r)
+      (λ world may. subst (λ a. IfSome (noted_end_of s r) (IsAnswer a)) (theory_answer world)
+      (noted_answer s r (theory_noted (setting world.folder) path) (comes world may)))
+      (noted_cause May I at m m' f f' s r comes cause)) comes
+
+-- ---- failures
 
 -- a device that failed later failed since
 pub rose_later : (a b c : ℕ) → a ≤ b → CountRose b c → CountRose a c
@@ -156,109 +236,37 @@ pub more_path : (b : Bool) (X P Q A B : Type 0) → (P → Q) → (A → B) → 
 more_path true X P Q A B needed failed is = is
 more_path false X P Q A B needed failed is = (needed is.0, failed is.1)
 
--- in the run
-pub noted_ends : (k : State) (names : Vec Name Global) (packages path : List ℕ) (view : View)
-    (May Behind : World → Type 0) (Folders : Folder → Type 0) (I : Type 0) (F G : List ℕ → Type 0) (M N : Type 0)
-    (o : Option (End Ran Stop)) → HasFolders May Folders → IsPart May Behind
-    → Every Folders (λ folder. Shows (Ok names) (shown_at path folder))
-    → ((file : List ℕ) → F file → G file) → (M → N)
-    → IfSome o (λ e. HasTaskEnd (RunInput packages path view) I F M e Behind)
-    → IfSome (option_map (noted_end names.items) o) (λ e. HasTaskEnd (ShowReadable packages path) I G N e May)
-noted_ends k names packages path view May Behind Folders I F G M N None has part shows failed missed ended = tt
-noted_ends k names packages path view May Behind Folders I F G M N (Some e) has part shows failed missed ended =
-    record {
-      end = λ world may.
-          ends k names (shown_at path world.folder) (run_at packages path world) e
-          (shows world.folder (has world may)) (ended.end world (part world may));
-      cause = go e ended.cause;
-    } where
-      go : (e : End Ran Stop) → HasTaskCause (RunInput packages path view) Behind I F M e
-          → HasTaskCause (ShowReadable packages path) May I G N (noted_end names.items e)
-      go (Finished r) cause = tt
-      go (Stopped s) cause = (cause.0, λ is. missed (cause.1 is))
-      go (Failed p) cause =
-          more_path (is_standard path) ((p ≡ path) × I) _ _ (F p) (G p)
-          (λ needed world may. IsMember-right p (shown_at path world.folder).paths
-          (opened_at packages path world.folder) (needed world (part world may)))
-          (failed p) cause
+-- ---- an article, which shows nothing
 
-pub noted_ran : (told : Option Folder) (left left' : Option (List ℕ)) (k : State) (names : Vec Name Global)
-    (packages path : List ℕ) (view : View) (I : Type 0) (F G : List ℕ → Type 0) (M N : Type 0)
-    (o : Option (End Ran Stop))
-    → HasReadFiles told (λ folder. Shows (Ok names) (shown_at path folder))
-    → ((file : List ℕ) → F file → G file) → (M → N)
-    → HasReadWorld told left left' (λ May. IfSome o (λ e. HasTaskEnd (RunInput packages path view) I F M e May))
-    → HasReadWorld told left left'
-    (λ May. IfSome (option_map (noted_end names.items) o) (λ e. HasTaskEnd (ShowReadable packages path) I G N e May))
-noted_ran told left left' k names packages path view I F G M N o shows failed missed ran =
-    folder_then_world told left left' (λ Folders. Every Folders (λ folder. Shows (Ok names) (shown_at path folder)))
-    _ _
-    (λ May Folders Behind has part shown ended.
-    noted_ends k names packages path view May Behind Folders I F G M N o has part shown failed missed ended)
-    (folder_of told _ _ (λ May h. h) shows) ran
+module _ (packages path : List ℕ) (view : View) (is : is_theory path ≡ false) (I : Type 0) (F : List ℕ → Type 0)
+    (M : Type 0) (May : World → Type 0) where
+  shows_none : (folder : Folder) → shown_at path folder ≡ answered (Ok [])
+  shows_none folder = λ i. if is i then theory_shown path folder else answered (Ok [])
 
--- or before it
-article_cause : (P : Stop → Type 0) (Q : List ℕ → Type 0) (M : Type 0) (p : List ℕ) (line : ℕ)
-    (o : Option (Fault Name))
-    → ((f : Fault Name) → P (InArticle p line f))
-    → let e : Option (End Ran Stop) = option_map (λ f. Stopped (InArticle p line f)) o in
-    IfSome (option_map (noted_end []) e) (HasCause stop_status P Q M)
-article_cause P Q M p line None own = tt
-article_cause P Q M p line (Some f) own = (own f, λ is. absurd cc)
+  same_answer : (world : World) (e : End Ran Stop) → IsAnswer (run_at packages path world).answer e
+      → IsAnswer (noted_at packages path world) (noted_end [] e)
+  same_answer world (Finished r) ended = λ i. noted (shows_none world.folder i).answer (ended i)
+  same_answer world (Stopped s) ended = λ i. noted (shows_none world.folder i).answer (ended i)
+  same_answer world (Failed p) ended = tt
 
-stop_cause : (k : State) (e : LinkFault) (packages path : List ℕ) (May : World → Type 0) (I : Type 0)
-    (at : Option (List ℕ)) (m m' f f' : ℕ)
-    → is_theory path ≡ true → Every May (λ world. Shows (Err e) (shown_at path world.folder))
-    → HasLinkCause e m m' f f' at
-    → IfSome (option_map (noted_end []) (end_at k e))
-    (HasTaskCause (ShowReadable packages path) May I (FileFailed at f f') (CountRose m m'))
-stop_cause k (faults.Article p line fault) packages path May I at m m' f f' theory comes cause =
-    article_cause (IsInputStop path) ((command (ShowReadable packages path)).IsFailed May I (FileFailed at f f'))
-    (CountRose m m') (string_bytes p) line _ (λ g. theory_stop path (InArticle (string_bytes p) line g) theory)
-stop_cause k (faults.Theory p line fault) packages path May I at m m' f f' theory comes cause = (
-  theory_stop path (InTheory (string_bytes p) line fault) theory,
-  λ is. absurd cc,
-)
-stop_cause k (faults.Structure p line fault) packages path May I at m m' f f' theory comes cause = (
-  theory_stop path (InStructure (string_bytes p) line fault) theory,
-  λ is. absurd cc,
-)
-stop_cause k (faults.TheoryTooLarge p) packages path May I at m m' f f' theory comes cause = (
-  theory_stop path (TooLarge (string_bytes p)) theory,
-  λ is. absurd cc,
-)
-stop_cause k (faults.NoFile p) packages path May I at m m' f f' theory comes cause = (
-  theory_stop path (Missing (string_bytes p)) theory,
-  λ is. cause,
-)
-stop_cause k (faults.ReadFault p) packages path May I at m m' f f' theory comes cause =
-    file_path path _ I (FileFailed at f f') (string_bytes p) (no_standard path theory)
-    (λ world may. IsMember-left (string_bytes p) (shown_at path world.folder).paths
-    (opened_at packages path world.folder) (comes world may k))
-    cause
-stop_cause k (faults.Memory memory) packages path May I at m m' f f' theory comes cause = tt
+  same_cause : (e : End Ran Stop) → HasTaskCause (RunInput packages path view) May I F M e
+      → HasTaskCause (ShowReadable packages path) May I F M (noted_end [] e)
+  same_cause (Finished r) cause = tt
+  same_cause (Stopped s) cause = cause
+  same_cause (Failed p) cause =
+      more_path (is_standard path) ((p ≡ path) × I) _ _ (F p) (F p)
+      (λ needed world may. IsMember-right p (shown_at path world.folder).paths
+      (opened_at packages path world.folder) (needed world may)) (λ failed. failed) cause
 
-pub shown_stops : (k : State) (e : LinkFault) (packages path : List ℕ) (May : World → Type 0) (I : Type 0)
-    (at : Option (List ℕ)) (m m' f f' : ℕ)
-    → is_theory path ≡ true → Every May (λ world. Shows (Err e) (shown_at path world.folder))
-    → HasLinkCause e m m' f f' at
-    → IfSome (option_map (noted_end []) (end_at k e))
-    (λ end. HasTaskEnd (ShowReadable packages path) I (FileFailed at f f') (CountRose m m') end May)
-shown_stops k e packages path May I at m m' f f' theory comes cause =
-    task_ended (ShowReadable packages path) I (FileFailed at f f') (CountRose m m') May
-    (option_map (noted_end []) (end_at k e))
-    (λ world may. stops k e (shown_at path world.folder) (run_at packages path world).answer (comes world may))
-    (stop_cause k e packages path May I at m m' f f' theory comes cause)
-
-pub shown_stops_ran : (told : Option Folder) (left : Option (List ℕ)) (k : State) (e : LinkFault)
-    (packages path : List ℕ) (I : Type 0) (at : Option (List ℕ)) (m m' f f' : ℕ)
-    → is_theory path ≡ true → HasReadFiles told (λ folder. Shows (Err e) (shown_at path folder))
-    → HasLinkCause e m m' f f' at
-    → HasReadWorld told left left (λ May. IfSome (option_map (noted_end []) (end_at k e))
-    (λ end. HasTaskEnd (ShowReadable packages path) I (FileFailed at f f') (CountRose m m') end May))
-shown_stops_ran told left k e packages path I at m m' f f' theory shows cause =
-    world_of_files told left _ _
-    (λ May comes. shown_stops k e packages path May I at m m' f f' theory comes cause) shows
+  -- it ends as its run does
+  pub article_noted : (o : Option (End Ran Stop))
+      → IfSome o (λ e. HasTaskEnd (RunInput packages path view) I F M e May)
+      → IfSome (option_map (noted_end []) o) (λ e. HasTaskEnd (ShowReadable packages path) I F M e May)
+  article_noted None ended = tt
+  article_noted (Some e) ended = record {
+    end = λ world may. same_answer world e (ended.end world may);
+    cause = same_cause e ended.cause;
+  }
 
 -- ---- its verdict
 
@@ -352,6 +360,16 @@ module _ (names : List Name) (s : Session) (seen : State) (es : List Export) (th
             let e : true ≡ false = sym fit ∙ k in cc
 
 -- ---- the devices
+
+-- a theory file leaves standard input alone, and any path may have been asked for last
+pub theory_leaves : {F S : Type 0} (path : List ℕ) (f g : F) (i : S) → is_theory path ≡ true
+    → LeavesOther path f g i i
+theory_leaves path f g i theory = rw (no_standard path theory) refl
+
+pub theory_last : {X : Type 0} (path : List ℕ) (o : Option X) (folder : Option Folder) (at : Option (List ℕ))
+    → is_theory path ≡ true → IfSome o (λ _. LastInput path folder at)
+theory_last path None folder at theory = tt
+theory_last path (Some x) folder at theory = rw (no_standard path theory, theory) tt
 
 pub leaves : {F S : Type 0} (path : List ℕ) (f g h : F) (i j : S) → (is_theory path ≡ true) ⊎ (g ≡ f)
     → LeavesOther path g h i j

@@ -25,7 +25,9 @@ use Rattle.ot_forms.specs.Words.{IsNotation}
 use Rattle.ot_pretty.specs.Summary.{hidden_at, IsHiddenAt}
 use Rattle.ot_pretty.proofs.SameSymbols.{alike-at, stated-notation}
 use Rattle.ot_forms.specs.Refusals.{ReadsAsTerm}
-use Rattle.ot_read.specs.Lines.{lines_read, term_read}
+use Rattle.ot_read.specs.Lines.{RefusedLine, lines_read, term_read, IsLineRefusal}
+use Rattle.ot_read.specs.declared.lines.LineRefusal.{LineRefusal}
+use Rattle.ot_read.specs.declared.lines.LineRefusal.TheVariants as refusals
 use Rattle.ot_read.specs.Laws.{TermsReadByForms, LinesReadByForms, TextsReadByForms, AreRead, StandFor}
 use Rattle.ot_read.proofs.Alike.{term-alike, lines-alike}
 use Rattle.ot_program.specs.World.{World, Every, HasReadWorld}
@@ -33,11 +35,12 @@ use Rattle.ot_program.specs.Tasks.{ShowReadable, ReadLines, is_standard}
 use Rattle.ot_program.specs.Runs.{Noted, noted_at, notation, text_limit}
 use Rattle.ot_program.specs.Command.{LastInput, LastOf}
 use Rattle.ot_program.specs.ReadLines.{Readings, ReadStop, NoText, TextTooLarge, text_in, read_in, read_at}
-use Rattle.ot_program.specs.ReadLines.{read_behind}
+use Rattle.ot_program.specs.ReadLines.{read_behind, IsLineStop}
 use Rattle.ot_program.specs.Answer.{IsResult}
-use Rattle.ot_program.specs.Verdicts.{End, Finished, Stopped, Failed, IsAnswer, IsTextCause, IsTextRefusal}
-use Rattle.ot_program.specs.Verdicts.{HasTaskCause, HasTaskEnd}
-use Rattle.ot_program.specs.Verdicts.{noted_from, noted_end, stop_end, read_end_of, IsStopVerdict, IsVerdictOf}
+use Rattle.ot_program.specs.Endings.{End, Finished, Stopped, Failed, IsAnswer, IsTextCause, IsTextRefusal}
+use Rattle.ot_program.specs.Endings.{HasTaskCause, HasTaskEnd, IsLineCause, noted_from, noted_end, stop_end}
+use Rattle.ot_program.specs.Endings.{read_end_of}
+use Rattle.ot_program.specs.Verdicts.{IsStopVerdict, IsVerdictOf}
 use Rattle.ot_program.specs.declared.report.Verdict.{Verdict}
 use Rattle.ot_program.specs.declared.reading.LinesRead.{LinesRead}
 use Rattle.ot_program.specs.declared.reading.ReadingRefusal.{ReadingRefusal}
@@ -62,7 +65,7 @@ text_cause : (packages path text : List ℕ) (May : World → Type 0) (n : Noted
     → IfSome (read_end_of text n r) (HasTaskCause (ReadLines packages path text) May I F N)
 text_cause packages path text May n I F A M N (Ok read) ran failed missed cause = tt
 text_cause packages path text May n I F A M N (Err (readings.At line column fault)) ran failed missed cause =
-    (tt, λ is. absurd cc)
+    (cause, λ is. absurd cc)
 text_cause packages path text May n I F A M N (Err readings.TooLarge) ran failed missed cause = (tt, λ is. absurd cc)
 text_cause packages path text May n I F A M N (Err readings.NoFile) ran failed missed cause =
     (tt, λ is. missed cause)
@@ -168,6 +171,17 @@ module _ (names : List Name) (s : Session) (seen : State) (es : List Export)
       subst (AreRead stated ls) e
       (texts stated (subst IsNotation is_stated (stated-notation seen names ths hidden is nt)) ls)
 
+  pub they_refuse : TextsReadByForms → (ls : List LineText) (r : RefusedLine) → lines_read stated ls ≡ Err r
+      → IsLineStop r
+  they_refuse texts ls r e =
+      let is_notation = subst IsNotation is_stated (stated-notation seen names ths hidden is nt) in
+      record {
+        hidden = stated;
+        notation = is_notation;
+        lines = ls;
+        first = subst (AreRead stated ls) e (texts stated is_notation ls);
+      }
+
   -- and of a text of one term
   pub same_term : TermsReadByForms → (text : List ℕ) → term_read hidden text ≡ term_read stated text
   same_term forms text =
@@ -187,6 +201,13 @@ pub all_stand : {E : Type 0} (hidden : List (Symbol Name)) (ls : List LineText) 
     → IfOk a (λ read. StandFor hidden ls (map sequent_of read.items))
 all_stand hidden ls (Ok read) stand is = stand (map sequent_of read.items) is
 all_stand hidden ls (Err e) stand is = tt
+
+-- each refusal is that of a line
+pub line_refused : {A B : Type 0} (o : Result A RefusedLine) (a : Result B LineRefusal)
+    → ((r : RefusedLine) → o ≡ Err r → IsLineStop r) → IfErr a (IsLineRefusal o) → IfErr a IsLineCause
+line_refused o (Ok b) refuse is = tt
+line_refused o (Err (refusals.At line column fault)) refuse is = refuse _ is
+line_refused o (Err (refusals.Memory memory)) refuse is = tt
 
 -- ---- the bytes of a text
 

@@ -22,7 +22,8 @@ use Rattle.ot_program.specs.Texts.{large_line}
 use Rattle.ot_program.specs.Runs.{assumptions_of, definitions_of, exports_of, summary_limit}
 use Rattle.ot_program.specs.Command.{run_lists, IsProved}
 use Rattle.ot_program.specs.RunInput.{summary, AreSupported}
-use Rattle.ot_program.specs.Verdicts.{ran_from, IsSaid, SummaryEndsAs, IsLawfulEnds}
+use Rattle.ot_program.specs.Endings.{ran_from}
+use Rattle.ot_program.specs.Verdicts.{IsSaid, SummaryEndsAs, IsLawfulEnds}
 use Rattle.ot_program.specs.declared.report.Verdict.{Verdict}
 use Rattle.ot_program.specs.declared.status.Status.TheVariants.{Accepted, Refused}
 use Rattle.ot_program.proofs.LimitLemmas.{text_printed, text_too_large}

@@ -13,8 +13,8 @@ use Rattle.ot_program.specs.Runs.{outcome}
 use Rattle.ot_program.specs.Command.{run_lists, IsProved}
 use Rattle.ot_program.specs.RunInput.{article_fits, article_text, IsRewritten}
 use Rattle.ot_program.specs.Samples.{sample_path, sample_line}
-use Rattle.ot_program.specs.Verdicts.{End, Finished, Stopped, Failed, IsAnswer, HasTaskCause, HasTaskEnd}
-use Rattle.ot_program.specs.Verdicts.{HasOwnCause, EndsAs, IsVerdictOf}
+use Rattle.ot_program.specs.Endings.{End, Finished, Stopped, Failed, IsAnswer, HasTaskCause, HasTaskEnd, HasOwnCause}
+use Rattle.ot_program.specs.Verdicts.{EndsAs, IsVerdictOf}
 use Rattle.ot_program.specs.declared.report.Verdict.{Verdict}
 use Rattle.ot_program.specs.declared.status.Status.TheVariants.{Accepted}
 use Rattle.ot_program.proofs.TaskEnds.{task_ended}

@@ -6,7 +6,7 @@ use Rattle.ot_io.specs.Folder.{Folder, bytes_at, path_asked}
 use Rattle.ot_program.specs.World.{World, Every}
 use Rattle.ot_program.specs.Tasks.{TaskValue, is_standard}
 use Rattle.ot_program.specs.Command.{IsReadPath}
-use Rattle.ot_program.specs.Verdicts.{End, IsAnswer, HasTaskCause, HasTaskEnd}
+use Rattle.ot_program.specs.Endings.{End, IsAnswer, HasTaskCause, HasTaskEnd}
 use Rattle.ot_program.specs.Reply.{command}
 
 -- one end is that of each

@@ -12,7 +12,7 @@ use Rattle.ot_program.specs.ReadLines.{ReadStop, InInput, NoText, TextTooLarge, 
 use Rattle.ot_program.specs.FindPattern.{FindStop, InRequired, InRun, InPattern, required_status, find_status}
 use Rattle.ot_program.specs.Answer.{IsResult, IsStopLine}
 use Rattle.ot_program.specs.World.{World, anywhere}
-use Rattle.ot_program.specs.Verdicts.{End, Finished, Stopped, Failed, IsEnd, HasTaskCause, HasTaskEnd}
+use Rattle.ot_program.specs.Endings.{End, Finished, Stopped, Failed, IsEnd, HasTaskCause, HasTaskEnd}
 use Rattle.ot_program.specs.Verdicts.{IsSaid, IsFinal, IsVerdictOn, IsVerdictOf, IsTextOf, IsTaskVerdict}
 use Rattle.ot_program.specs.declared.report.Verdict.{Verdict}
 use Rattle.ot_program.specs.declared.status.Status.{Status}

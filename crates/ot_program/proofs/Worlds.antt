@@ -30,6 +30,10 @@ pub told_by : (asks : Bool) (folder told : Option Folder) → asks ≡ false →
 told_by asks folder told known (inl is) = absurd (true≢false (sym is ∙ known))
 told_by asks folder told known (inr is) = is
 
+pub files_told : (folder told : Option Folder) (Holds : Folder → Type 0) → told ≡ folder
+    → HasReadFiles folder Holds → HasReadFiles told Holds
+files_told folder told Holds same p = subst (λ (o : Option Folder). HasReadFiles o Holds) (sym same) p
+
 -- behind a call that keeps the folder
 pub told_behind : (AsksNoFile Behind : Type 0) (folder folder' told : Option Folder) → (AsksNoFile → Behind)
     → folder' ≡ folder → AsksNoFile ⊎ (told ≡ folder) → Behind ⊎ (told ≡ folder')

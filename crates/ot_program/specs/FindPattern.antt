@@ -1,19 +1,20 @@
 -- The command `find`.
 use Rattle.std.specs.List.{All}
 use Rattle.std.specs.Prelude.{ℕ, List, [], ◌∷◌, ◌++◌, true, length, map, codes, nat_le, Result, Ok, Err}
-use Rattle.std.specs.Prelude.{if◌then◌else◌, ◌≡◌, ◌⊎◌, false}
+use Rattle.std.specs.Prelude.{if◌then◌else◌, ◌≡◌, ◌<◌, ◌-◌, ◌⊎◌, false}
 use Rattle.ot_args.specs.Grammar.{is_theory}
 use Rattle.ot_blocks.specs.Paths.{package_path}
 use Rattle.ot_find.specs.Matches.{Source, Found, matches, AreMatches, exports_of as all_exports}
 use Rattle.ot_find.specs.Texts.{find_text}
-use Rattle.ot_forms.specs.Refusals.{ReadsAsTerm}
+use Rattle.ot_forms.specs.Refusals.{ReadsAsTerm, IsTermRefused}
+use Rattle.ot_forms.specs.Words.{IsNotation}
 use Rattle.ot_io.specs.Folder.{Folder}
 use Rattle.ot_link.specs.Blocks.{Ran}
 use Rattle.ot_link.specs.Stops.{Stop}
 use Rattle.ot_logic.specs.Answers.{◌>>=◌}
 use Rattle.ot_logic.specs.Lists.{IsMember}
 use Rattle.ot_logic.specs.Names.{Name}
-use Rattle.ot_logic.specs.Trees.{Tm}
+use Rattle.ot_logic.specs.Trees.{Tm, Symbol}
 use Rattle.ot_read.specs.Lines.{RefusedLine, at_line, term_read}
 use Rattle.ot_repo.specs.Laws.{IsWalked}
 use Rattle.ot_repo.specs.Required.{Refusal, Missing as NotThere, required}
@@ -111,11 +112,19 @@ find_line (InRequired refusal) = required_line refusal
 find_line (InRun stop) = stop_line stop
 find_line (InPattern refused) = column_line pattern_path refused.line refused.column refused.fault
 
--- a theory file alone requires packages, and a pattern is one line
-abbrev pub IsFindStop : List ℕ → FindStop → Type 0
-IsFindStop path (InRequired refusal) = is_theory path ≡ true
-IsFindStop path (InRun stop) = IsInputStop path stop
-IsFindStop path (InPattern refused) = refused.line ≡ 1
+-- a pattern is one line, and by the forms it is refused so under a notation
+pub record IsPatternStop (pattern : List ℕ) (refused : RefusedLine) : Type 0 where
+  pub line_is : refused.line ≡ 1
+  pub column_is : 0 < refused.column
+  pub hidden : List (Symbol Name)
+  pub notation : IsNotation hidden
+  pub is_refused : IsTermRefused hidden pattern (refused.column - 1) refused.fault
+
+-- a theory file alone requires packages
+abbrev pub IsFindStop : (pattern path : List ℕ) → FindStop → Type 0
+IsFindStop pattern path (InRequired refusal) = is_theory path ≡ true
+IsFindStop pattern path (InRun stop) = IsInputStop path stop
+IsFindStop pattern path (InPattern refused) = IsPatternStop pattern refused
 
 -- ---- what is promised of it
 
@@ -158,7 +167,7 @@ find_pattern packages pattern path = record {
   IsPromised = IsSearch pattern path;
   status = find_status;
   line = find_line;
-  IsOwn = IsFindStop path;
+  IsOwn = IsFindStop pattern path;
   IsFailed = λ May InputFails FileFails failed.
       (IsInputPath path (opened_noted packages path) May InputFails FileFails failed
       × Every May (λ world. HasNoStop (required_at packages path world.folder)))

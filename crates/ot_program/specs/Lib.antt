@@ -14,5 +14,8 @@ pub mod FindPattern
 pub mod Reply
 pub mod Answer
 pub mod Laws
+-- how the parts of the program end
+pub mod Endings
 pub mod Verdicts
+pub mod Searches
 pub mod Wording

@@ -4,8 +4,9 @@ use Rattle.ot_io.specs.Folder.{Folder, bytes_at}
 use Rattle.ot_link.specs.Stops.{Stop}
 use Rattle.ot_logic.specs.Answers.{◌>>=◌, some_or, unless}
 use Rattle.ot_logic.specs.Names.{Name}
-use Rattle.ot_logic.specs.Trees.{Sequent}
-use Rattle.ot_read.specs.Laws.{StandFor}
+use Rattle.ot_logic.specs.Trees.{Sequent, Symbol}
+use Rattle.ot_forms.specs.Words.{IsNotation}
+use Rattle.ot_read.specs.Laws.{StandFor, IsFirstRefused}
 use Rattle.ot_read.specs.Lines.{RefusedLine, lines_read, sequent_lines}
 use Rattle.ot_theory.specs.Lines.{LineText, lines_of as text_lines}
 use Rattle.ot_program.specs.Command.{run_lists, LastOf, IsInputPath, HasNoStop, Command}
@@ -73,10 +74,19 @@ read_stop_line text NoText = missing_line text
 read_stop_line text TextTooLarge = large_text_line text
 read_stop_line text (InLine refused) = column_line text refused.line refused.column refused.fault
 
+-- by the forms, it is the first refusal of some lines under a notation
+pub record IsLineStop (refused : RefusedLine) : Type 0 where
+  pub hidden : List (Symbol Name)
+  pub notation : IsNotation hidden
+  pub lines : List LineText
+  pub first : IsFirstRefused hidden lines refused
+
 -- the lines of a text have stops of their own
 abbrev pub IsReadStop : List ℕ → ReadStop → Type 0
 IsReadStop path (InInput stop) = IsInputStop path stop
-IsReadStop path _ = Unit {0}
+IsReadStop path NoText = Unit {0}
+IsReadStop path TextTooLarge = Unit {0}
+IsReadStop path (InLine refused) = IsLineStop refused
 
 -- ---- the command
 

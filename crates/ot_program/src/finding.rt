@@ -20,11 +20,12 @@ ghost use Rattle.ot_program.specs.Command.{run_lists, IsProved, LeavesOther, Las
 ghost use Rattle.ot_program.specs.FindPattern.{pattern_path};
 ghost use Rattle.ot_program.specs.Answer.{FileFailed, ClosesFiles};
 ghost use Rattle.ot_program.specs.Texts.{column_line};
-ghost use Rattle.ot_program.specs.Verdicts.{noted_of, ran_from, ending_of, IfEnded, EndsSearch, EndsBehind};
-ghost use Rattle.ot_program.specs.Verdicts.{FoundEndsAs, HasMatches, IsPattern, IsSaid, IsWalkVerdict};
-ghost use Rattle.ot_program.specs.Verdicts.{HasEndedPattern, EndsWalk, EndsInput, EndsRun, EndsRuns, IsTaskVerdict};
+ghost use Rattle.ot_program.specs.Endings.{noted_of, ran_from};
+ghost use Rattle.ot_program.specs.Verdicts.{IsSaid, IsTaskVerdict};
+ghost use Rattle.ot_program.specs.Searches.{ending_of, IfEnded, EndsSearch, EndsBehind, FoundEndsAs, HasMatches, IsPattern};
+ghost use Rattle.ot_program.specs.Searches.{IsWalkVerdict, HasEndedPattern, EndsWalk, EndsInput, EndsRun, EndsRuns};
 
-use crate::input::{fresh_session, run_theory};
+use crate::input::{fresh_session, run_theory_file};
 use crate::noted::{NotedRun, run_noted};
 use crate::report::{
     Verdict, accepted, failed, missing, proved, refused, stopped, theorems_of, too_large,
@@ -390,7 +391,7 @@ fn package_in<F: Files>(
     ensures files { ClosesFiles F.folder F.faults F.misses F.left files.old files.new }
 {
     let path = package_path(alloc, packages, full.as_bytes())?;
-    match run_theory(alloc, session, packages, &path, files) {
+    match run_theory_file(alloc, session, packages, &path, files) {
         Ok(exports) => search_exports(alloc, session, &exports, full, pattern, search),
         Err(stop) => Err(ending_of(stopped(alloc, session.kernel(), stop))),
     }

@@ -1,4 +1,4 @@
-ghost use Rattle.std.specs.Prelude.{◌≡◌, [], Some, IsOk, IfOk, IfErr, IfSome, string_bytes, true};
+ghost use Rattle.std.specs.Prelude.{◌≡◌, [], Some, IsOk, IfOk, IfErr, IfSome, true};
 ghost use Rattle.ot_io.specs.Causes.{CountRose};
 ghost use Rattle.ot_io.specs.Folder.{path_asked};
 ghost use Rattle.ot_io.specs.Keeping.{KeepsSource};
@@ -13,8 +13,8 @@ ghost use Rattle.ot_program.specs.Tasks.{is_standard};
 ghost use Rattle.ot_program.specs.Runs.{outcome, article_run};
 ghost use Rattle.ot_program.specs.Command.{LeavesOther};
 ghost use Rattle.ot_program.specs.Answer.{FileFailed, ClosesFiles};
-ghost use Rattle.ot_program.specs.Verdicts.{job_task, end_of, IsAnswer};
-ghost use Rattle.ot_program.specs.Verdicts.{HasTaskEnd, HasOwnCause, HasTheoryEnd, IsLawfulEnd};
+ghost use Rattle.ot_program.specs.Endings.{job_task, end_of, IsAnswer, HasTaskEnd, HasOwnCause, HasTheoryEnd};
+ghost use Rattle.ot_program.specs.Verdicts.{IsLawfulEnd};
 ghost use Rattle.ot_program.specs.Reply.{command};
 
 use crate::task::Job;
@@ -65,39 +65,16 @@ pub fn run_input<F: Files, S: Source>(
 {
     let path = job.path;
     if path == STANDARD {
-        run_standard(alloc, session, path, input)
+        run_article_from(alloc, session, path, input)
     } else if is_theory(path) {
-        run_theory(alloc, session, job.packages, path, files)
+        run_theory_file(alloc, session, job.packages, path, files)
     } else {
-        run_file(alloc, session, path, files)
+        run_article_file(alloc, session, path, files)
     }
 }
 
-/// Runs the article on standard input.
-fn run_standard<S: Source>(
-    alloc: Global,
-    session: &mut Session,
-    path: &str,
-    input: &mut S,
-) -> Result<Vec<Export>, LinkFault>
-    requires session { IsRun session.old }
-    requires fresh { run_of session.old ≡ fresh_run }
-    ensures ran { HasRead (S.left input.old) (S.left input.new) (IsOk result) (λ bytes rest.
-        IfSome (end_of session.new result) (IsAnswer (article_end path.now (outcome bytes)))) }
-    ensures session { IsRun session.new }
-    ensures exports { IfOk result (AreExportsIn session.new) }
-    ensures lawful { IfOk result (IsLawfulEnd session.new) }
-    ensures symbols { IfErr result (NamesSymbolIn session.new.kernel) }
-    ensures cause { IfSome (end_of session.new result)
-        (HasOwnCause path.now (CountRose (S.faults input.old) (S.faults input.new)) ⊥) }
-    ensures source { KeepsSource S.folder S.faults S.misses S.at input.old input.new }
-{
-    let path = String::from_str(alloc, path)?;
-    run_article(alloc, session, path, input)
-}
-
 /// Runs a theory file over packages in a folder, with the limits of the program.
-pub fn run_theory<F: Files>(
+pub fn run_theory_file<F: Files>(
     alloc: Global,
     session: &mut Session,
     packages: &str,
@@ -122,7 +99,7 @@ pub fn run_theory<F: Files>(
 }
 
 /// Opens the file of a path, runs its article and closes it.
-fn run_file<F: Files>(
+fn run_article_file<F: Files>(
     alloc: Global,
     session: &mut Session,
     path: &str,
@@ -142,38 +119,44 @@ fn run_file<F: Files>(
     ensures files { ClosesFiles F.folder F.faults F.misses F.left files.old files.new }
     ensures at { IfSome (end_of session.new result) (λ _. F.at files.new ≡ path_asked (F.folder files.old) path.now) }
 {
-    let name = String::from_str(alloc, path)?;
     match files.open_file(path) {
         Ok(()) => {
-            let ran = run_article(alloc, session, name, files);
+            let ran = run_article_from(alloc, session, path, files);
             files.close();
             ran
         }
-        Err(OpenFault::Missing) => Err(LinkFault::NoFile { path: name }),
-        Err(OpenFault::Failed) => Err(LinkFault::ReadFault { path: name }),
+        Err(OpenFault::Missing) => {
+            let path = String::from_str(alloc, path)?;
+            Err(LinkFault::NoFile { path })
+        }
+        Err(OpenFault::Failed) => {
+            let path = String::from_str(alloc, path)?;
+            Err(LinkFault::ReadFault { path })
+        }
     }
 }
 
-/// Runs the article of a path that a source has left, in the empty context: its symbols have the names that it gives
-/// them, and no theorem comes from elsewhere.
-pub fn run_article<S: Source>(
+/// Runs the article that a source has left, under the name of this path, in the empty context: its symbols have the
+/// names that it gives them, and no theorem comes from elsewhere.
+pub fn run_article_from<S: Source>(
     alloc: Global,
     session: &mut Session,
-    path: String,
+    path: &str,
     source: &mut S,
 ) -> Result<Vec<Export>, LinkFault>
     requires session { IsRun session.old }
     requires fresh { run_of session.old ≡ fresh_run }
     ensures ran { HasRead (S.left source.old) (S.left source.new) (IsOk result) (λ bytes rest.
-        IfSome (end_of session.new result) (IsAnswer (article_end (string_bytes path) (outcome bytes)))) }
+        IfSome (end_of session.new result) (IsAnswer (article_end path.now (outcome bytes)))) }
     ensures session { IsRun session.new }
     ensures exports { IfOk result (AreExportsIn session.new) }
     ensures lawful { IfOk result (IsLawfulEnd session.new) }
     ensures symbols { IfErr result (NamesSymbolIn session.new.kernel) }
     ensures cause { IfSome (end_of session.new result)
-        (HasOwnCause (string_bytes path) (CountRose (S.faults source.old) (S.faults source.new)) ⊥) }
+        (HasOwnCause path.now (CountRose (S.faults source.old) (S.faults source.new)) ⊥) }
     ensures source { KeepsSource S.folder S.faults S.misses S.at source.old source.new }
 {
     let limits = Limits::standard();
+    let path = String::from_str(alloc, path)?;
     run_alone(alloc, session, source, path, &limits)
 }

@@ -11,7 +11,7 @@ ghost use Rattle.ot_program.specs.Tasks.{CheckLog, is_standard};
 ghost use Rattle.ot_program.specs.Command.{LeavesOther};
 ghost use Rattle.ot_program.specs.CheckLog.{check_bytes, check_file, log_status};
 ghost use Rattle.ot_program.specs.Answer.{FileFailed, ClosesFiles};
-ghost use Rattle.ot_program.specs.Verdicts.{log_end_of, IsAnswer, HasCause, HasTaskEnd};
+ghost use Rattle.ot_program.specs.Endings.{log_end_of, IsAnswer, HasCause, HasTaskEnd};
 ghost use Rattle.ot_program.specs.Reply.{command};
 
 use crate::input::STANDARD;

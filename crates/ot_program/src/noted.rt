@@ -1,26 +1,25 @@
 //! The run of an input, with the namespaces that it shows.
-ghost use Rattle.std.specs.Prelude.{◌≡◌, ◌⊎◌, true, IfOk, IfErr, IfSome};
+ghost use Rattle.std.specs.Prelude.{◌≡◌, true, IfOk, IfErr, IfSome};
 ghost use Rattle.std.specs.List.{All};
 ghost use Rattle.ot_io.specs.Causes.{CountRose};
 ghost use Rattle.ot_io.specs.Keeping.{KeepsSource};
 ghost use Rattle.ot_io.specs.Readings.{HasReadFiles};
-ghost use Rattle.ot_kernel.specs.State.{State};
 ghost use Rattle.ot_link.specs.Answers.{NamesSymbolIn, Comes, HasCause as HasLinkCause};
 ghost use Rattle.ot_machine.specs.Meaning.{run_of, IsRun, IsExportIn};
 ghost use Rattle.ot_machine.specs.States.{fresh_run};
-ghost use Rattle.ot_args.specs.Grammar.{is_theory};
 ghost use Rattle.ot_program.specs.World.{HasReadWorld, EachTold};
 ghost use Rattle.ot_program.specs.Tasks.{ShowReadable, is_standard};
-ghost use Rattle.ot_program.specs.Runs.{shown_at};
+ghost use Rattle.ot_program.specs.Runs.{limits};
 ghost use Rattle.ot_program.specs.Command.{LeavesOther, LastInput};
 ghost use Rattle.ot_program.specs.Answer.{FileFailed, ClosesFiles};
-ghost use Rattle.ot_program.specs.Verdicts.{noted_end_of, HasTaskEnd, IsLawfulEnds};
+ghost use Rattle.ot_program.specs.Endings.{noted_of, noted_end_of, theory_noted, HasTaskEnd};
+ghost use Rattle.ot_program.specs.Verdicts.{IsLawfulEnds};
 
 use crate::input::run_input;
 use crate::task::{Job, View};
 use ot_args::is_theory;
 use ot_io::{Files, Source};
-use ot_link::{LinkFault, shown};
+use ot_link::{LinkFault, link_theory, read_theory, shown, theory_in};
 use ot_logic::{Limits, Name};
 use ot_machine::{Export, Session};
 use std::alloc::Global;
@@ -32,7 +31,8 @@ pub struct NotedRun {
     pub exports: Vec<Export>,
 }
 
-/// Runs an input, up to its first fault. What a theory file shows is read before its run. The session is fresh.
+/// Runs an input, up to its first fault, with the namespaces that it shows: those of a theory file's tags, and of an
+/// article none. A theory file is read once. The session is fresh.
 pub fn run_noted<F: Files, S: Source>(
     alloc: Global,
     session: &mut Session,
@@ -59,37 +59,48 @@ pub fn run_noted<F: Files, S: Source>(
     ensures at { IfSome (noted_end_of session.new result)
         (λ _. LastInput path.now (F.folder files.old) (F.at files.new)) }
 {
-    match shown_names(alloc, path, files) {
-        Ok(names) => {
-            let job = Job {
-                packages,
-                path,
-                view: View::Counts,
-            };
-            match run_input(alloc, session, job, files, input) {
-                Ok(exports) => Ok(NotedRun { names, exports }),
-                Err(stop) => Err(stop),
+    if is_theory(path) {
+        run_shown(alloc, session, packages, path, files)
+    } else {
+        let job = Job {
+            packages,
+            path,
+            view: View::Counts,
+        };
+        match run_input(alloc, session, job, files, input) {
+            Ok(exports) => {
+                let names = Vec::new(alloc);
+                Ok(NotedRun { names, exports })
             }
+            Err(stop) => Err(stop),
         }
-        Err(stop) => Err(stop),
     }
 }
 
-/// The namespaces that an input shows: those of a theory file's tags, and of an article none.
-fn shown_names<F: Files>(alloc: Global, path: &str, files: &mut F) -> Result<Vec<Name>, LinkFault>
-    ensures comes { EachTold (is_standard path.now ≡ true) (F.folder files.old) (λ told. HasReadFiles told (λ folder.
-        (k : State) → Comes k (λ names. names.items) result (shown_at path.now folder))) }
-    ensures theory { IfErr result (λ _. is_theory path.now ≡ true) }
-    ensures symbols { IfErr result (λ e. (k : State) → NamesSymbolIn k e) }
+/// Reads a theory file, once, gives what it shows, and runs it.
+fn run_shown<F: Files>(
+    alloc: Global,
+    session: &mut Session,
+    packages: &str,
+    path: &str,
+    files: &mut F,
+) -> Result<NotedRun, LinkFault>
+    requires session { IsRun session.old }
+    requires fresh { run_of session.old ≡ fresh_run }
+    ensures comes { HasReadFiles (F.folder files.old) (λ folder. Comes session.new.kernel (noted_of session.new) result
+        (theory_noted (record { folder = folder; packages = packages.now; limits = limits }) path.now)) }
+    ensures session { IsRun session.new }
+    ensures exports { IfOk result (λ r. All (IsExportIn session.new) r.exports.items) }
+    ensures lawful { IfOk result (λ r. IsLawfulEnds session.new r.exports.items) }
+    ensures symbols { IfErr result (NamesSymbolIn session.new.kernel) }
     ensures cause { IfErr result (λ e. HasLinkCause e (F.misses files.old)
         (F.misses files.new) (F.faults files.old) (F.faults files.new) (F.at files.new)) }
     ensures files { ClosesFiles F.folder F.faults F.misses F.left files.old files.new }
-    ensures other { (is_theory path.now ≡ true) ⊎ (files.new ≡ files.old) }
 {
-    if is_theory(path) {
-        let limits = Limits::standard();
-        shown(alloc, files, path, &limits)
-    } else {
-        Ok(Vec::new(alloc))
-    }
+    let limits = Limits::standard();
+    let text = read_theory(alloc, files, path, &limits)?;
+    let theory = theory_in(alloc, path, &text)?;
+    let names = shown(alloc, &theory.tags)?;
+    let exports = link_theory(alloc, session, files, path, &theory, packages, &limits)?;
+    Ok(NotedRun { names, exports })
 }

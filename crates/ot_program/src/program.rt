@@ -10,7 +10,8 @@ ghost use Rattle.ot_machine.specs.States.{fresh_run};
 ghost use Rattle.ot_program.specs.Tasks.{task_of, ShowReadable};
 ghost use Rattle.ot_program.specs.Answer.{IsAnswered, WritesLine, FileFailed, NoFileIsAsked, LeavesUnasked};
 ghost use Rattle.ot_program.specs.Answer.{ClosesFiles};
-ghost use Rattle.ot_program.specs.Verdicts.{task_value, job_task, IsSized, IsTaskVerdict, IsSilent, WritesText, Ends, error_line};
+ghost use Rattle.ot_program.specs.Endings.{task_value, job_task, IsSized};
+ghost use Rattle.ot_program.specs.Verdicts.{IsTaskVerdict, IsSilent, WritesText, Ends, error_line};
 ghost use Rattle.ot_program.specs.Reply.{command};
 
 use crate::finding::{Query, run_finding};

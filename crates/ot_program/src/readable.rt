@@ -6,7 +6,8 @@ ghost use Rattle.ot_machine.specs.Meaning.{IsRun, IsExportIn};
 ghost use Rattle.ot_program.specs.Tasks.{ShowReadable};
 ghost use Rattle.ot_program.specs.Runs.{summary_limit};
 ghost use Rattle.ot_program.specs.ShowReadable.{readable, AreReadBack};
-ghost use Rattle.ot_program.specs.Verdicts.{noted_from, noted_end_of, IsVerdictOf, ReadableEndsAs};
+ghost use Rattle.ot_program.specs.Endings.{noted_from, noted_end_of};
+ghost use Rattle.ot_program.specs.Verdicts.{IsVerdictOf, ReadableEndsAs};
 
 use crate::noted::NotedRun;
 use crate::report::{Verdict, accepted, proved, stopped, theorems_of, too_large};

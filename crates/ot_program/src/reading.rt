@@ -16,8 +16,8 @@ ghost use Rattle.ot_program.specs.Tasks.{ReadLines};
 ghost use Rattle.ot_program.specs.Runs.{notation};
 ghost use Rattle.ot_program.specs.ReadLines.{read_in, text_in};
 ghost use Rattle.ot_program.specs.Answer.{FileFailed, ClosesFiles};
-ghost use Rattle.ot_program.specs.Verdicts.{noted_of, read_end_of, IsAnswer, IsVerdictOf};
-ghost use Rattle.ot_program.specs.Verdicts.{IsTextRefusal, IsTextCause, IsPrintedAs, IsTaskVerdict};
+ghost use Rattle.ot_program.specs.Endings.{noted_of, read_end_of, IsAnswer, IsTextRefusal, IsTextCause, IsLineCause};
+ghost use Rattle.ot_program.specs.Verdicts.{IsVerdictOf, IsPrintedAs, IsTaskVerdict};
 ghost use Rattle.ot_program.specs.Reply.{command};
 
 use crate::input::fresh_session;
@@ -215,6 +215,7 @@ fn read_bytes(
     ensures stand { IfOk result (λ read. StandFor (notation (noted_of session.now run.now))
         (lines_of text.now) (map sequent_of read.items)) }
     ensures refused { IfErr result (IsLineRefusal (lines_read (notation (noted_of session.now run.now)) (lines_of text.now))) }
+    ensures first { IfErr result IsLineCause }
 {
     let theorems = match theorems_of(alloc, &run.exports) {
         Ok(theorems) => theorems,

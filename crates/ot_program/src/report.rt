@@ -15,9 +15,9 @@ ghost use Rattle.ot_program.specs.RunInput.{IsRewritten, IsLogged, IsPromisedIn,
 ghost use Rattle.ot_program.specs.Samples.{sample_front, sample_back, line_count};
 ghost use Rattle.ot_program.specs.Texts.{large_line, large_article_line};
 ghost use Rattle.ot_program.specs.Texts.{large_log_line, missing_line, read_fault_line};
-ghost use Rattle.ot_program.specs.Verdicts.{job_task, ran_from, AreCounts, end_at, end_of, log_end_of};
-ghost use Rattle.ot_program.specs.Verdicts.{IsVerdictOf, IsStopVerdict, IsSaid, EndsAs, SummaryEndsAs};
-ghost use Rattle.ot_program.specs.Verdicts.{UsesEndsAs, ArticleEndsAs, LogEndsAs, IsLawfulEnd, IsLawfulEnds};
+ghost use Rattle.ot_program.specs.Endings.{job_task, ran_from, AreCounts, end_at, end_of, log_end_of};
+ghost use Rattle.ot_program.specs.Verdicts.{IsVerdictOf, IsStopVerdict, IsSaid, EndsAs, SummaryEndsAs, UsesEndsAs};
+ghost use Rattle.ot_program.specs.Verdicts.{ArticleEndsAs, LogEndsAs, IsLawfulEnd, IsLawfulEnds};
 
 use crate::log::LogRefusal;
 use crate::sample::SAMPLE;

@@ -6,7 +6,7 @@ ghost use Rattle.ot_program.specs.World.{anywhere};
 ghost use Rattle.ot_program.specs.Tasks.{RunSample, MakeSample};
 ghost use Rattle.ot_program.specs.Verdicts.{IsTaskVerdict};
 
-use crate::input::{fresh_session, run_article};
+use crate::input::{fresh_session, run_article_from};
 use crate::report::{Verdict, made_verdict, sample_verdict};
 use ot_io::Bytes;
 use ot_logic::Memory;
@@ -35,8 +35,7 @@ fn sample_in(alloc: Global, session: &mut Session, size: u64) -> Result<Verdict,
 {
     let mut made = Vec::new(alloc);
     sample_article(size, &mut made)?;
-    let path = String::from_str(alloc, SAMPLE)?;
-    let ran = run_article(alloc, session, path, &mut Bytes::new(&made));
+    let ran = run_article_from(alloc, session, SAMPLE, &mut Bytes::new(&made));
     sample_verdict(alloc, size, &made, session, ran)
 }
 

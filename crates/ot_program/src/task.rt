@@ -2,7 +2,7 @@
 ghost use Rattle.std.specs.Prelude.{◌≡◌, ◌≢◌, None, IfOk, OnOk, OnErr};
 ghost use Rattle.ot_args.specs.Grammar.{texts_of, command_of};
 ghost use Rattle.ot_program.specs.Tasks.{task_of};
-ghost use Rattle.ot_program.specs.Verdicts.{task_answer, task_value, IsSized};
+ghost use Rattle.ot_program.specs.Endings.{task_answer, task_value, IsSized};
 
 use ot_args::{Command, Sections, Usage};
 
@@ -63,7 +63,7 @@ impl<'a> Task<'a> {
     ghost use Rattle.std.specs.Prelude.{◌≡◌};
     ghost use Rattle.ot_args.specs.Grammar.{command_value};
     ghost use Rattle.ot_program.specs.Tasks.{task};
-    ghost use Rattle.ot_program.specs.Verdicts.{task_value};
+    ghost use Rattle.ot_program.specs.Endings.{task_value};
 
     /// What a command does.
     pub fn of(command: Command<'a>) -> Task<'a>

@@ -104,14 +104,14 @@ fn lines(rt: HostRuntime) -> Result<(), Fail> {
     Ok(())
 }
 
-/// Calls that fail: the theory file's two readings, the article's, and the text's; and of an article on the input its own
-/// and the text's.
+/// Calls that fail: each file is opened, read and found at its end, first the theory file, once, then the article, then
+/// the text; and of an article on the input its own and the text's.
 #[test]
 fn failures(rt: HostRuntime) -> Result<(), Fail> {
     let rows: [(&str, u64, &[u8]); 5] = [
         ("t.thy", 1, b"opentheory: t.thy: read fault\n"),
-        ("t.thy", 7, b"opentheory: truth.art: read fault\n"),
-        ("t.thy", 10, b"opentheory: short.txt: read fault\n"),
+        ("t.thy", 4, b"opentheory: truth.art: read fault\n"),
+        ("t.thy", 7, b"opentheory: short.txt: read fault\n"),
         ("-", 1, b"opentheory: -: read fault\n"),
         ("-", 2, b"opentheory: short.txt: read fault\n"),
     ];

@@ -29,7 +29,7 @@ use Rattle.ot_link.specs.Answers.{setting_of, Comes, ran_of}
 use Rattle.ot_link.specs.Planned.{Planned}
 use Rattle.ot_link.specs.Renaming.{interpretation_of}
 use Rattle.ot_link.specs.Blocks.{Ran, source_at, run_article, run_source, run_block}
-use Rattle.ot_link.specs.Link.{none_done, imported, run_at, exports_at, opener, run_file}
+use Rattle.ot_link.specs.Link.{none_done, imported, run_at, exports_at, opener, run_theory, run_file}
 use Rattle.ot_link.specs.Holding.{given_to, items_of, held_at, done_of}
 use Rattle.ot_blocks.specs.Paths.{article_path, package_path}
 use Rattle.ot_machine.specs.Lawful.{IsLawfulRun}
@@ -43,8 +43,8 @@ use Rattle.ot_link.proofs.Runnable.{runnable}
 use Rattle.ot_link.proofs.Sequence.{IsLeft, all-left, one-ran, one-stopped, all-ran}
 use Rattle.ot_link.proofs.Standing.{block-there, block-all, block-none, place-at}
 use Rattle.ot_link.proofs.Standing.{imported-as, imported-inside, exports-as}
-use Rattle.ot_link.proofs.Opened.{any-now, open-again, open-deep, open-inside}
-use Rattle.ot_link.proofs.Opened.{file-unread, file-unparsed, file-unplanned, file-ran}
+use Rattle.ot_link.proofs.Opened.{any-now, open-again, open-deep, open-inside, theory-unplanned, theory-ran}
+use Rattle.ot_link.proofs.TheoryFiles.{file-unread, file-unparsed, file-parsed}
 use Rattle.ot_link.proofs.Lawful.{stays-as, stays-on, inner-lawful, same-exports-lawful, none-lawful}
 use Rattle.ot_link.proofs.Leaving.{left-stopped, left-unmoved, left-passed, left-behind}
 use Rattle.ot_link.proofs.Lawful.{place-inside, place-lawful, imported-lawful, context-lawful, held-lawful}
@@ -56,11 +56,12 @@ pub link_file-returns-in_err-text-clause-comes : goal.link_file-returns-in_err-t
 link_file-returns-in_err-text-clause-comes g t c =
     let p = err_from_is_err_and c.from_residual.result c.from_residual.ensures.1 in
     let old = c.args.session.now in
+    let path = string_bytes c.args.file.now.path in
     rw (p.1, p.2)
-    (Files-map _ _ _ (λ folder text. file-unread old.kernel (setting_of folder c.args.setting)
-    (opener_of (setting_of folder c.args.setting) c.args.file.now) (string_bytes c.args.file.now.path)
-    (context_of old c.args.file.now.outer.now) (run_of old) c.in_err-text.field-0.0
-    (rw c.deref.ensures at (text old.kernel)))
+    (Files-map _ _ _ (λ folder text. let s = setting_of folder c.args.setting in
+    file-unread old.kernel s path
+    (run_theory s (opener_of s c.args.file.now) path (context_of old c.args.file.now.outer.now) (run_of old))
+    c.in_err-text.field-0.0 (rw c.deref.ensures at (text old.kernel)))
     c.in_err-text.ensures.comes)
 
 pub link_file-returns-in_err-text-clause-left : goal.link_file-returns-in_err-text-clause-left
@@ -73,19 +74,19 @@ link_file-returns-in_err-theory-clause-left g t c =
     left-unmoved c.requires.ready _ _ c.from_residual-in_err-theory.ensures.1
     (c.in_err-theory.ensures.symbols c.args.session.now.kernel)
 
-pub link_file-returns-in_err-plan-clause-left : goal.link_file-returns-in_err-plan-clause-left
-link_file-returns-in_err-plan-clause-left g t c =
-    left-unmoved c.requires.ready _ _ c.from_residual-in_err-plan.ensures.1
-    (c.in_err-plan.ensures.symbols c.args.session.now.kernel)
-
 pub link_file-returns-in_err-theory-clause-cause : goal.link_file-returns-in_err-theory-clause-cause
 link_file-returns-in_err-theory-clause-cause g t c =
     let p = err_from_is_err_and c.from_residual-in_err-theory.result c.from_residual-in_err-theory.ensures.1 in
     rw (p.1, p.2) (c.in_err-theory.ensures.cause _ _ _ _ _)
 
-pub link_file-returns-in_err-plan-clause-cause : goal.link_file-returns-in_err-plan-clause-cause
-link_file-returns-in_err-plan-clause-cause g t c =
-    let p = err_from_is_err_and c.from_residual-in_err-plan.result c.from_residual-in_err-plan.ensures.1 in
+pub run_theory-returns-in_err-plan-clause-left : goal.run_theory-returns-in_err-plan-clause-left
+run_theory-returns-in_err-plan-clause-left g t c =
+    left-unmoved c.requires.ready _ _ c.from_residual.ensures.1
+    (c.in_err-plan.ensures.symbols c.args.session.now.kernel)
+
+pub run_theory-returns-in_err-plan-clause-cause : goal.run_theory-returns-in_err-plan-clause-cause
+run_theory-returns-in_err-plan-clause-cause g t c =
+    let p = err_from_is_err_and c.from_residual.result c.from_residual.ensures.1 in
     rw (p.1, p.2) (c.in_err-plan.ensures.cause _ _ _ _ _)
 
 -- ---- a package
@@ -108,42 +109,49 @@ pub link_file-returns-in_err-theory-clause-comes : goal.link_file-returns-in_err
 link_file-returns-in_err-theory-clause-comes g t c =
     let p = err_from_is_err_and c.from_residual-in_err-theory.result c.from_residual-in_err-theory.ensures.1 in
     let old = c.args.session.now in
+    let path = string_bytes c.args.file.now.path in
     rw (p.1, p.2)
-    (Files-map _ _ _ (λ folder text. file-unparsed old.kernel (setting_of folder c.args.setting)
-    (opener_of (setting_of folder c.args.setting) c.args.file.now) (string_bytes c.args.file.now.path)
-    (context_of old c.args.file.now.outer.now) (run_of old) c.in_ok-text.text.items
-    (rw c.deref.ensures at (text old.kernel)) c.in_err-theory.field-0.0
+    (Files-map _ _ _ (λ folder text. let s = setting_of folder c.args.setting in
+    file-unparsed old.kernel s path
+    (run_theory s (opener_of s c.args.file.now) path (context_of old c.args.file.now.outer.now) (run_of old))
+    c.in_ok-text.text.items (rw c.deref.ensures at (text old.kernel)) c.in_err-theory.field-0.0
     (rw (c.deref-2.ensures, c.deref-3.ensures.value) at (c.in_err-theory.ensures.comes old.kernel)))
-    c.in_ok-text.ensures.comes)
-
-pub link_file-returns-in_err-plan-clause-comes : goal.link_file-returns-in_err-plan-clause-comes
-link_file-returns-in_err-plan-clause-comes g t c =
-    let p = err_from_is_err_and c.from_residual-in_err-plan.result c.from_residual-in_err-plan.ensures.1 in
-    let old = c.args.session.now in
-    rw (p.1, p.2)
-    (Files-map _ _ _ (λ folder text. file-unplanned old.kernel (setting_of folder c.args.setting)
-    (opener_of (setting_of folder c.args.setting) c.args.file.now) (string_bytes c.args.file.now.path)
-    (context_of old c.args.file.now.outer.now) (run_of old) c.in_ok-text.text.items
-    (rw c.deref.ensures at (text old.kernel))
-    (theory_of c.in_ok-theory.theory)
-    (rw (c.deref-2.ensures, c.deref-3.ensures.value) at (c.in_ok-theory.ensures.comes old.kernel))
-    c.in_err-plan.field-0.0
-    (rw (c.deref-4.ensures, c.deref-5.ensures.value) at (c.in_err-plan.ensures.comes old.kernel)))
     c.in_ok-text.ensures.comes)
 
 pub link_file-returns-clause-comes : goal.link_file-returns-clause-comes
 link_file-returns-clause-comes g t c =
     let old = c.args.session.now in
-    let mid = c.run_blocks.new.session in
-    Files-next c.theory_text.ensures.kept c.in_ok-text.ensures.comes
-    (rw c.deref-6.ensures.value at c.run_blocks.ensures.comes)
-    (λ folder text ran. file-ran mid.kernel (setting_of folder c.args.setting)
+    let mid = c.run_theory.new.session in
+    let path = string_bytes c.args.file.now.path in
+    Files-next c.theory_text.ensures.kept c.in_ok-text.ensures.comes c.run_theory.ensures.comes
+    (λ folder text ran. let s = setting_of folder c.args.setting in
+    file-parsed mid.kernel s path
+    (run_theory s (opener_of s c.args.file.now) path (context_of old c.args.file.now.outer.now) (run_of old))
+    c.in_ok-text.text.items (rw c.deref.ensures at (text old.kernel))
+    (theory_of c.in_ok-theory.theory) (ran_of mid) c.run_theory.result
+    (rw (c.deref-2.ensures, c.deref-3.ensures.value) at (c.in_ok-theory.ensures.comes old.kernel)) ran)
+
+pub run_theory-returns-in_err-plan-clause-comes : goal.run_theory-returns-in_err-plan-clause-comes
+run_theory-returns-in_err-plan-clause-comes g t c =
+    let p = err_from_is_err_and c.from_residual.result c.from_residual.ensures.1 in
+    let old = c.args.session.now in
+    rw (p.1, p.2)
+    (Files-none _ _ (λ folder. theory-unplanned old.kernel (setting_of folder c.args.setting)
     (opener_of (setting_of folder c.args.setting) c.args.file.now) (string_bytes c.args.file.now.path)
-    (context_of old c.args.file.now.outer.now) (run_of old) c.in_ok-text.text.items
-    (rw c.deref.ensures at (text old.kernel))
-    (theory_of c.in_ok-theory.theory) (plan_of c.in_ok-plan.plan) (ran_of mid) c.run_blocks.result
-    (rw (c.deref-2.ensures, c.deref-3.ensures.value) at (c.in_ok-theory.ensures.comes old.kernel))
-    (rw (c.deref-4.ensures, c.deref-5.ensures.value) at (c.in_ok-plan.ensures.comes old.kernel)) ran)
+    (context_of old c.args.file.now.outer.now) (run_of old) (theory_of c.args.theory.now)
+    c.in_err-plan.field-0.0
+    (rw (c.deref.ensures, c.deref-2.ensures.value) at (c.in_err-plan.ensures.comes old.kernel))))
+
+pub run_theory-returns-clause-comes : goal.run_theory-returns-clause-comes
+run_theory-returns-clause-comes g t c =
+    let old = c.args.session.now in
+    let mid = c.run_blocks.new.session in
+    Files-map _ _ _ (λ folder ran. theory-ran mid.kernel (setting_of folder c.args.setting)
+    (opener_of (setting_of folder c.args.setting) c.args.file.now) (string_bytes c.args.file.now.path)
+    (context_of old c.args.file.now.outer.now) (run_of old) (theory_of c.args.theory.now)
+    (plan_of c.in_ok-plan.plan) (ran_of mid) c.run_blocks.result
+    (rw (c.deref.ensures, c.deref-2.ensures.value) at (c.in_ok-plan.ensures.comes old.kernel)) ran)
+    (rw c.deref-3.ensures.value at c.run_blocks.ensures.comes)
 
 -- ---- a package, further on
 
@@ -244,11 +252,11 @@ run_block-returns-in_err-candidates-clause-cause g t c =
 
 -- ---- a theory file's blocks, and a block's file
 
-pub link_file-run_blocks-requires : goal.link_file-run_blocks-requires
-link_file-run_blocks-requires g t c κs within =
-    let blocks = runnable (theory_of c.in_ok-theory.theory) (plan_of c.in_ok-plan.plan) c.in_ok-theory.ensures.sound
-    (rw c.deref-5.ensures.value at c.in_ok-plan.ensures.sound) in
-    let right : All IsRunnable (blocks_of c.deref-6.result.now) = rw c.deref-6.ensures.value blocks in (
+pub run_theory-run_blocks-requires : goal.run_theory-run_blocks-requires
+run_theory-run_blocks-requires g t c κs within =
+    let blocks = runnable (theory_of c.args.theory.now) (plan_of c.in_ok-plan.plan) c.requires.sound
+    (rw c.deref-2.ensures.value at c.in_ok-plan.ensures.sound) in
+    let right : All IsRunnable (blocks_of c.deref-3.result.now) = rw c.deref-3.ensures.value blocks in (
       omega arith,
       (
         within,
@@ -539,7 +547,7 @@ run_next-returns-clause-comes g t c =
 pub run_source-returns-in_ok-path-in-Article-clause-comes : goal.run_source-returns-in_ok-path-in-Article-clause-comes
 run_source-returns-in_ok-path-in-Article-clause-comes g t c =
     let old = c.args.session.now in
-    let new = c.run_article.new.session in
+    let new = c.open_article.new.session in
     let context = context_of old c.args.context.now in
     let imports = map (export_of old) c.args.imports.now in
     let path = string_bytes c.args.file.now.path in
@@ -550,8 +558,8 @@ run_source-returns-in_ok-path-in-Article-clause-comes g t c =
     (c.in_ok-path-in-Article.ensures ∙ ap (λ q. article_path q c.in-Article.value.now) c.deref.ensures)
     ∙ ap (λ source. run_source s (opener_of s c.args.file.now) path imports (source_value source) context
     (run_of old)) (sym c.in-Article.is) in
-    subst (Comes new.kernel (ran_of new) c.run_article.result) to ran)
-    c.run_article.ensures.comes
+    subst (Comes new.kernel (ran_of new) c.open_article.result) to ran)
+    c.open_article.ensures.comes
 
 -- ---- a block's imports
 

@@ -31,19 +31,22 @@ invariant-run_blocks-each g l = record {
 
 -- a package that is opened leaves one package less to be opened
 abbrev pub decreases-link_file : goal.decreases-link_file
-decreases-link_file g l = 6 * l.file.now.left + 5
+decreases-link_file g l = 7 * l.file.now.left + 6
+
+abbrev pub decreases-run_theory : goal.decreases-run_theory
+decreases-run_theory g l = 7 * l.file.now.left + 5
 
 abbrev pub decreases-run_blocks : goal.decreases-run_blocks
-decreases-run_blocks g l = 6 * l.file.now.left + 4
+decreases-run_blocks g l = 7 * l.file.now.left + 4
 
 abbrev pub decreases-run_next : goal.decreases-run_next
-decreases-run_next g l = 6 * l.file.now.left + 3
+decreases-run_next g l = 7 * l.file.now.left + 3
 
 abbrev pub decreases-run_block : goal.decreases-run_block
-decreases-run_block g l = 6 * l.file.now.left + 2
+decreases-run_block g l = 7 * l.file.now.left + 2
 
 abbrev pub decreases-run_source : goal.decreases-run_source
-decreases-run_source g l = 6 * l.file.now.left + 1
+decreases-run_source g l = 7 * l.file.now.left + 1
 
 abbrev pub decreases-open_package : goal.decreases-open_package
-decreases-open_package g l = 6 * l.file.now.left
+decreases-open_package g l = 7 * l.file.now.left

@@ -3,7 +3,8 @@ use Rattle.std.specs.Prelude.{IsSomeAnd}
 use Rattle.ot_io.specs.Causes.{CountRose}
 use Rattle.ot_program.specs.Command.{LastInput}
 use Rattle.ot_program.specs.Answer.{FileFailed}
-use Rattle.ot_program.specs.Verdicts.{end_at, IsStopVerdict}
+use Rattle.ot_program.specs.Endings.{end_at}
+use Rattle.ot_program.specs.Verdicts.{IsStopVerdict}
 use Rattle.ot_program.proofs.Worlds.{world_map}
 use Rattle.ot_program.proofs.FindingLemmas.{ends_by, input_stopped, input_last}
 use Rattle.ot_program.proofs.finding.input_run.Goals as goal

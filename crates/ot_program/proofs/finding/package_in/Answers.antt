@@ -5,7 +5,7 @@ use Rattle.ot_io.specs.Causes.{CountRose}
 use Rattle.ot_blocks.specs.Paths.{package_path}
 use Rattle.ot_program.specs.World.{HasReadFolder}
 use Rattle.ot_program.specs.Answer.{FileFailed}
-use Rattle.ot_program.specs.Verdicts.{end_at, ran_from, Finished, HasTheoryEnd}
+use Rattle.ot_program.specs.Endings.{end_at, ran_from, Finished, HasTheoryEnd}
 use Rattle.ot_program.proofs.Worlds.{folder_map}
 use Rattle.ot_program.proofs.FindingLemmas.{run_searched, run_stopped}
 use Rattle.ot_program.proofs.finding.package_in.Goals as goal
@@ -15,10 +15,10 @@ returns-in-Ok-clause-searched g c =
     let packages = c.args.packages.now in
     let full = c.args.full.now in
     let told = g.F.Source.folder c.args.files.now in
-    let F : List ℕ → Type 0 = FileFailed (g.F.Source.at c.run_theory.new.files)
-    (g.F.Source.faults c.args.files.now) (g.F.Source.faults c.run_theory.new.files) in
-    let Q : Type 0 = CountRose (g.F.Source.misses c.args.files.now) (g.F.Source.misses c.run_theory.new.files) in
-    let ran = ran_from c.run_theory.new.session c.in-Ok.exports.items in
+    let F : List ℕ → Type 0 = FileFailed (g.F.Source.at c.run_theory_file.new.files)
+    (g.F.Source.faults c.args.files.now) (g.F.Source.faults c.run_theory_file.new.files) in
+    let Q : Type 0 = CountRose (g.F.Source.misses c.args.files.now) (g.F.Source.misses c.run_theory_file.new.files) in
+    let ran = ran_from c.run_theory_file.new.session c.in-Ok.exports.items in
     let same : c.deref.result.now ≡ package_path packages full =
     c.deref.ensures ∙ c.in_ok-path.ensures ∙ ap (package_path packages) c.as_bytes.ensures.value in
     let ended = subst (λ (z : List ℕ). HasReadFolder told (HasTheoryEnd packages z F Q (Finished ran))) same
@@ -34,10 +34,10 @@ returns-clause-searched g c =
     let packages = c.args.packages.now in
     let full = c.args.full.now in
     let told = g.F.Source.folder c.args.files.now in
-    let F : List ℕ → Type 0 = FileFailed (g.F.Source.at c.run_theory.new.files)
-    (g.F.Source.faults c.args.files.now) (g.F.Source.faults c.run_theory.new.files) in
-    let Q : Type 0 = CountRose (g.F.Source.misses c.args.files.now) (g.F.Source.misses c.run_theory.new.files) in
-    let o = end_at c.run_theory.new.session.kernel c.in-Err.stop in
+    let F : List ℕ → Type 0 = FileFailed (g.F.Source.at c.run_theory_file.new.files)
+    (g.F.Source.faults c.args.files.now) (g.F.Source.faults c.run_theory_file.new.files) in
+    let Q : Type 0 = CountRose (g.F.Source.misses c.args.files.now) (g.F.Source.misses c.run_theory_file.new.files) in
+    let o = end_at c.run_theory_file.new.session.kernel c.in-Err.stop in
     let same : c.deref.result.now ≡ package_path packages full =
     c.deref.ensures ∙ c.in_ok-path.ensures ∙ ap (package_path packages) c.as_bytes.ensures.value in
     let ended = subst (λ (z : List ℕ). HasReadFolder told (λ May. IfSome o (λ e. HasTheoryEnd packages z F Q e May)))

@@ -8,7 +8,9 @@ use Rattle.ot_read.specs.Lines.{term_read}
 use Rattle.ot_program.specs.Runs.{notation}
 use Rattle.ot_program.specs.FindPattern.{pattern_path}
 use Rattle.ot_program.specs.Texts.{column_line}
-use Rattle.ot_program.specs.Verdicts.{noted_from, noted_of, HasEndedPattern, IsPattern, IsSaid}
+use Rattle.ot_program.specs.Endings.{noted_from, noted_of}
+use Rattle.ot_program.specs.Verdicts.{IsSaid}
+use Rattle.ot_program.specs.Searches.{HasEndedPattern, IsPattern}
 use Rattle.ot_program.specs.declared.status.Status.TheVariants.{Refused}
 use Rattle.ot_program.specs.declared.report.Verdict.{Verdict}
 use Rattle.ot_program.proofs.RunLemmas.{exported_within}
@@ -66,5 +68,6 @@ returns-in-Err-At-clause-ended c =
     (subst (λ (ns : List Name). (v : Verdict) → IsSaid v Refused (column_line pattern_path 1 column fault)
     → HasEndedPattern (noted_from ns s es) text v)
     c.deref-2.ensures.value
-    (pattern_ended (noted_from c.deref-2.result.now s es) text column fault refused.0 there))
+    (pattern_ended (noted_from c.deref-2.result.now s es) text column fault refused.0 hidden c.sound.ensures refused.1
+    there))
     c.pattern_verdict.ensures)

@@ -3,7 +3,7 @@ use Rattle.std.specs.Prelude.{Err}
 use Rattle.ot_io.specs.Causes.{CountRose}
 use Rattle.ot_program.specs.Command.{LastInput}
 use Rattle.ot_program.specs.Answer.{FileFailed}
-use Rattle.ot_program.specs.Verdicts.{EndsSearch, IfEnded}
+use Rattle.ot_program.specs.Searches.{EndsSearch, IfEnded}
 use Rattle.ot_program.specs.declared.finding.Ending.{Ending}
 use Rattle.ot_program.proofs.Options.{ok_always}
 use Rattle.ot_program.proofs.Worlds.{world_map}

@@ -6,7 +6,7 @@ use Rattle.ot_logic.specs.PlainTrees.{term_of_tree}
 use Rattle.ot_logic.specs.Lists.{IsMember}
 use Rattle.ot_io.specs.Causes.{CountRose}
 use Rattle.ot_program.specs.Answer.{FileFailed}
-use Rattle.ot_program.specs.Verdicts.{AreSearched}
+use Rattle.ot_program.specs.Searches.{AreSearched}
 use Rattle.ot_program.proofs.NotedLemmas.{rose_later, file_later, keeps}
 use Rattle.ot_program.proofs.Worlds.{is_told, folder_map, folder_none, folder_then}
 use Rattle.ot_program.proofs.FindingLemmas.{none_searched, one_searched, package_ends, all_searched}

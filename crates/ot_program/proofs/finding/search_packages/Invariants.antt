@@ -3,7 +3,7 @@ use Rattle.std.specs.Prelude.{string_bytes}
 use Rattle.ot_logic.specs.PlainTrees.{term_of_tree}
 use Rattle.ot_program.specs.World.{EachTold, HasReadFolder}
 use Rattle.ot_program.specs.Answer.{ClosesFiles}
-use Rattle.ot_program.specs.Verdicts.{AreSearched}
+use Rattle.ot_program.specs.Searches.{AreSearched}
 use Rattle.ot_program.proofs.finding.search_packages.Given as goal
 
 abbrev pub invariant-each : goal.invariant-each

@@ -4,7 +4,7 @@ use Rattle.std.proofs.lemmas.Result.{err_from_is_err_and}
 use Rattle.ot_logic.specs.PlainTrees.{term_of_tree}
 use Rattle.ot_io.specs.Causes.{CountRose}
 use Rattle.ot_program.specs.Answer.{FileFailed}
-use Rattle.ot_program.specs.Verdicts.{noted_of}
+use Rattle.ot_program.specs.Endings.{noted_of}
 use Rattle.ot_program.proofs.Worlds.{folder_map, folder_none}
 use Rattle.ot_program.proofs.FindingLemmas.{pattern_behind, runs_behind, exports_behind, searched_behind}
 use Rattle.ot_program.proofs.finding.search_run.Goals as goal

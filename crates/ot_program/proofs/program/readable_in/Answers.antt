@@ -2,7 +2,7 @@ use Rattle.std.proofs.Common.{ℕ, List}
 use Rattle.ot_io.specs.Causes.{CountRose}
 use Rattle.ot_program.specs.Tasks.{ShowReadable}
 use Rattle.ot_program.specs.Answer.{FileFailed}
-use Rattle.ot_program.specs.Verdicts.{noted_end_of}
+use Rattle.ot_program.specs.Endings.{noted_end_of}
 use Rattle.ot_program.proofs.Worlds.{world_map}
 use Rattle.ot_program.proofs.VerdictLemmas.{task_verdict, last_path}
 use Rattle.ot_program.proofs.program.readable_in.Goals as goal

@@ -2,7 +2,7 @@ use Rattle.std.proofs.Common.{◌≡◌, ◌⊎◌, inr, refl, sym, subst}
 use Rattle.ot_args.specs.Grammar.{texts_of}
 use Rattle.ot_io.specs.Causes.{CountRose}
 use Rattle.ot_program.specs.Answer.{FileFailed, NoFileIsAsked}
-use Rattle.ot_program.specs.Verdicts.{task_value}
+use Rattle.ot_program.specs.Endings.{task_value}
 use Rattle.ot_program.proofs.Worlds.{world_map, world_none}
 use Rattle.ot_program.proofs.ReplyLemmas.{is_answered, memory_answered, usage_answered}
 use Rattle.ot_program.proofs.ReplyLemmas.{no_write_fault, used_right}

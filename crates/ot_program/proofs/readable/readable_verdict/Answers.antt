@@ -1,5 +1,5 @@
 use Rattle.std.proofs.Common.{[]}
-use Rattle.ot_program.specs.Verdicts.{noted_of, end_at}
+use Rattle.ot_program.specs.Endings.{noted_of, end_at}
 use Rattle.ot_program.proofs.NotedLemmas.{end_verdict, stop_verdict}
 use Rattle.ot_program.proofs.readable.readable_verdict.Goals as goal
 

@@ -3,7 +3,8 @@ use Rattle.std.proofs.Common.{◌≡◌, ◌∙◌, ap, subst, List, length, map
 use Rattle.ot_logic.specs.Names.{Name}
 use Rattle.ot_program.specs.Runs.{summary_limit}
 use Rattle.ot_program.specs.ShowReadable.{readable, AreReadBack}
-use Rattle.ot_program.specs.Verdicts.{noted_from, ReadableEndsAs}
+use Rattle.ot_program.specs.Endings.{noted_from}
+use Rattle.ot_program.specs.Verdicts.{ReadableEndsAs}
 use Rattle.ot_program.proofs.RunLemmas.{exported_within}
 use Rattle.ot_program.proofs.NotedLemmas.{read_back, printed, refused, unpromised}
 use Rattle.ot_program.proofs.readable.summary.Goals as goal

@@ -1,5 +1,5 @@
 use Rattle.ot_io.proofs.Readings.{Files-none}
-use Rattle.ot_program.specs.Verdicts.{noted_of}
+use Rattle.ot_program.specs.Endings.{noted_of}
 use Rattle.ot_program.proofs.ReadingLemmas.{text_refused}
 use Rattle.ot_program.proofs.reading.read_text.Goals as goal
 

@@ -6,7 +6,7 @@ use Rattle.ot_link.specs.declared.fault.LinkFault.{LinkFault}
 use Rattle.ot_program.specs.Tasks.{ReadLines}
 use Rattle.ot_program.specs.Command.{LastInput, LastOf}
 use Rattle.ot_program.specs.Answer.{FileFailed}
-use Rattle.ot_program.specs.Verdicts.{end_at, noted_of, noted_end_of, stop_end, read_end_of}
+use Rattle.ot_program.specs.Endings.{end_at, noted_of, noted_end_of, stop_end, read_end_of}
 use Rattle.ot_program.specs.declared.noted.NotedRun.{NotedRun}
 use Rattle.ot_program.proofs.Options.{ok_always}
 use Rattle.ot_program.proofs.Worlds.{world_map}

@@ -1,4 +1,4 @@
-use Rattle.ot_program.specs.Verdicts.{ran_from}
+use Rattle.ot_program.specs.Endings.{ran_from}
 use Rattle.ot_program.proofs.SampleLemmas.{sample_ended}
 use Rattle.ot_program.proofs.report.sample_verdict.Goals as goal
 

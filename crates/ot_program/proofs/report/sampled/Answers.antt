@@ -1,6 +1,6 @@
 use Rattle.std.proofs.Common.{◌∙◌, ◌++◌, ap}
 use Rattle.ot_program.specs.Samples.{sample_front, sample_back, line_count}
-use Rattle.ot_program.specs.Verdicts.{ran_from}
+use Rattle.ot_program.specs.Endings.{ran_from}
 use Rattle.ot_program.proofs.SampleLemmas.{sample_within, written_text}
 use Rattle.ot_program.proofs.report.sampled.Goals as goal
 

@@ -2,7 +2,7 @@ use Rattle.std.proofs.Common.{◌≡◌, ap}
 use Rattle.ot_program.specs.Runs.{summary_limit}
 use Rattle.ot_program.specs.RunInput.{uses}
 use Rattle.ot_program.specs.Texts.{large_line}
-use Rattle.ot_program.specs.Verdicts.{ran_from}
+use Rattle.ot_program.specs.Endings.{ran_from}
 use Rattle.ot_program.proofs.LimitLemmas.{text_printed}
 use Rattle.ot_program.proofs.RunLemmas.{are_supported}
 use Rattle.ot_program.proofs.report.uses.Goals as goal

@@ -1,5 +1,5 @@
 use Rattle.ot_program.proofs.InputLemmas.{limits_are, theory_ran, lawful_end}
-use Rattle.ot_program.proofs.input.run_theory.Goals as goal
+use Rattle.ot_program.proofs.input.run_theory_file.Goals as goal
 
 pub returns-clause-ran : goal.returns-clause-ran
 returns-clause-ran g c =

@@ -10,7 +10,7 @@ use Rattle.ot_link.specs.Stops.{Stop}
 use Rattle.ot_link.specs.Answers.{setting_of, ran_of}
 use Rattle.ot_link.specs.Blocks.{Ran, article_end}
 use Rattle.ot_link.proofs.FileParts.{file-found, file-missing, file-failed}
-use Rattle.ot_link.proofs.article.run_article.Goals as goal
+use Rattle.ot_link.proofs.article.open_article.Goals as goal
 
 pub returns-in-Ok-clause-comes : goal.returns-in-Ok-clause-comes
 returns-in-Ok-clause-comes g c =

@@ -7,7 +7,7 @@ use Rattle.ot_machine.specs.Meaning.{machine_state}
 use Rattle.ot_machine.proofs.Led.{read-leads}
 use Rattle.ot_link.proofs.Ending.{article-ended, article-stopped}
 use Rattle.ot_link.proofs.Lawful.{article-left, article-refused}
-use Rattle.ot_link.proofs.article.run_source.Goals as goal
+use Rattle.ot_link.proofs.article.article_exports.Goals as goal
 
 pub run_article-requires-clause-of : goal.run_article-requires-clause-of
 run_article-requires-clause-of g c = c.new-machine.ensures.of c.args.session.now c.requires.ready.session
