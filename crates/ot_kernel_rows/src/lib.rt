@@ -26,6 +26,8 @@ mod print;
 #[cfg(test)]
 mod repo;
 #[cfg(test)]
+mod rules;
+#[cfg(test)]
 mod subst;
 #[cfg(test)]
 mod terms;

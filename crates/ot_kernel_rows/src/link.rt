@@ -8,8 +8,8 @@ mod tables;
 use crate::folder::{Entry, files_of};
 use crate::fresh::fresh_session;
 use ot_blocks::StructureFault;
-use ot_io::MemFiles;
-use ot_link::{LinkFault, link};
+use ot_io::{MemFiles, MemSource};
+use ot_link::{LinkFault, link, run_alone};
 use ot_logic::Limits;
 use ot_machine::{Export, Fault, Session};
 use ot_theory::TheoryFault;
@@ -159,6 +159,44 @@ fn failing_files(rt: HostRuntime) -> Result<(), Fail> {
         );
     }
     assert!(rt; false, "no run without a failing call");
+    Ok(())
+}
+
+/// {p} |- p, in 89 bytes.
+const ALONE: &[u8] =
+    b"6\nversion\n\"p\"\n\"bool\"\ntypeOp\nnil\nopType\nvar\nvarTerm\n0\ndef\nassume\n0\nref\nnil\ncons\n0\nref\n\
+      thm\n";
+
+/// Whether the run of an article by sixteen bytes a call ends so, where this call fails.
+fn ends_alone(alloc: Global, call: u64, end: End) -> Result<bool, Fail> {
+    let bytes = Vec::from_slice(alloc, ALONE)?;
+    let mut source = MemSource::new(bytes, 16, Vec::from_slice(alloc, &[call])?);
+    let path = String::from_str(alloc, "a.art")?;
+    ends_by_source(alloc, &mut source, path, end)
+}
+
+fn ends_by_source(
+    alloc: Global,
+    source: &mut MemSource,
+    path: String,
+    end: End,
+) -> Result<bool, Fail> {
+    let limits = Limits::standard();
+    let mut session = fresh_session(alloc)?;
+    let result = run_alone(alloc, &mut session, source, path, &limits);
+    Ok(end_of(&result, &session) == end)
+}
+
+/// The seventh call finds the end of the article.
+#[test]
+fn failing_articles(rt: HostRuntime) -> Result<(), Fail> {
+    for call in 1..8 {
+        assert!(rt;
+            ends_alone(rt.alloc(), call, End::ReadFault)?,
+            "call {call}"
+        );
+    }
+    assert!(rt; ends_alone(rt.alloc(), 8, End::Ended(1, 0, 0))?);
     Ok(())
 }
 
