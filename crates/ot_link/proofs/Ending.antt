@@ -1,5 +1,5 @@
 -- How the run of an article ends, and how the machine answers it.
-use Rattle.std.specs.Prelude.{Result, Ok, Err, IfOk, IfErr, OnOk, Vec, String, string_bytes}
+use Rattle.std.specs.Prelude.{Result, Ok, Err, OnOk, Vec, String, string_bytes}
 use Rattle.std.specs.Global.{Global}
 use Rattle.std.proofs.Common.{◌≡◌, ◌∙◌, ℕ, List, map, sym, ap}
 use Rattle.ot_scan.specs.Lines.{Lines}
@@ -17,7 +17,6 @@ use Rattle.ot_link.specs.Stops.{answered_by}
 use Rattle.ot_link.specs.Blocks.{article_end}
 use Rattle.ot_link.specs.Answers.{Stops, Comes, ran_of, EndsAs}
 use Rattle.ot_link.specs.declared.fault.LinkFault.TheVariants as link
-use Rattle.ot_logic.specs.RanOut.{ran_out}
 
 -- what follows from a fact about an answer that is Ok
 pub on-ok : {A E : Type 0} {P Q : Type 0} (r : Result A E) → (P → Q) → OnOk r P → OnOk r Q
@@ -36,16 +35,12 @@ module _ (s0 s : Session) (before after : Machine) (c : Context) (lines : Lines)
   begun : run c lines (start fresh_article) ≡ run c lines (machine_state s0 before)
   begun = ap (λ a. run c lines (start a)) (sym fresh)
 
-  -- the exports are copied, or memory runs out
-  pub article-ended : (r : Result (Vec Export Global) ArticleFault)
+  -- the exports are those of the machine
+  pub article-ended : (exports : Vec Export Global)
       → Runs s.kernel (Ok tt) c lines (machine_state s0 before) (machine_state s after)
-      → IfOk r (λ copy. copy.items ≡ after.exports.items) → IfErr r (λ e. e ≡ article.Memory ran_out)
-      → EndsAs s r (run c lines (start fresh_article))
-  article-ended (Ok copy) h same memory =
+      → exports.items ≡ after.exports.items → EndsAs s (Ok exports) (run c lines (start fresh_article))
+  article-ended exports h same =
       (machine_state s after, begun ∙ h, λ i. record { exports = map (export_of s) (same i); run = run_of s })
-  article-ended (Err (article.At line fault)) h same memory = absurd (cc)
-  article-ended (Err article.ReadFault) h same memory = tt
-  article-ended (Err (article.Memory _)) h same memory = tt
 
   pub article-stopped : (e : ArticleFault) → Runs s.kernel (Err e) c lines (machine_state s0 before) (machine_state s after)
       → EndsAs s (Err e) (run c lines (start fresh_article))

@@ -1,5 +1,5 @@
 -- What is lawful over a run is lawful over a later one.
-use Rattle.std.specs.Prelude.{◌==◌, Option, Some, None, Result, Ok, Err, Vec, IfOk, IfErr, flat_map}
+use Rattle.std.specs.Prelude.{◌==◌, Option, Some, None, Ok, Err, Vec, flat_map}
 use Rattle.std.specs.Global.{Global}
 use Rattle.std.specs.List.{All}
 use Rattle.std.specs.HashMap.{HashMap, get_by}
@@ -37,7 +37,6 @@ use Rattle.ot_link.specs.Holding.{held_at, held_of}
 use Rattle.ot_link.specs.Lawful.{basis_of, IsLawfulSession, AreLawfulExports, AreLawfulOnce}
 use Rattle.ot_link.specs.Lawful.{IsLawfulContext, StaysLawful, IsReady, LeavesExports, BlocksAreNaming}
 use Rattle.ot_link.proofs.Held.{exports-kept, held-as}
-use Rattle.ot_logic.specs.RanOut.{ran_out}
 
 -- ---- sessions that stay lawful
 
@@ -129,11 +128,10 @@ module _ (old new : Session) (m n : Machine) (c : code.Context) (fresh : FreshIs
     lawful_exports = tt;
   }
 
-  -- its exports are copied, or memory runs out
-  pub article-left : (r : Result (Vec Export Global) ArticleFault) → IfOk r (λ copy. copy.items ≡ n.exports.items)
-      → IfErr r (λ e. e ≡ article.Memory ran_out) → LeavesExports NamesSymbolIn r old new
-  article-left (Err e) same memory = article-refused e (rw memory tt)
-  article-left (Ok copy) same memory =
+  -- its exports are those of the machine
+  pub article-left : (exports : Vec Export Global) → exports.items ≡ n.exports.items
+      → LeavesExports NamesSymbolIn (Ok exports) old new
+  article-left exports same =
       let state = article-keeps.0.article in
       record {
         exports = rw same of.exports;

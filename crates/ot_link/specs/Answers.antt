@@ -5,6 +5,7 @@ use Rattle.std.specs.List.{All}
 use Rattle.ot_logic.specs.Names.{Name}
 use Rattle.ot_logic.specs.Lists.{IsMember}
 use Rattle.ot_logic.specs.Faults as faults
+use Rattle.ot_logic.specs.Limits.{article_limit, theory_limit, package_limit}
 use Rattle.ot_logic.specs.declared.limits.Limits.{Limits}
 use Rattle.ot_logic.specs.RanOut.{ran_out}
 use Rattle.ot_io.specs.Causes.{CountRose}
@@ -28,9 +29,9 @@ use Rattle.ot_link.specs.declared.fault.LinkFault.TheVariants as link
 
 -- the limits are at most those of the program
 pub record AreWithin (limits : Limits) : Type 0 where
-  pub article : limits.article_bytes ≤ 4294967296
-  pub theory : limits.theory_bytes ≤ 1048576
-  pub packages : limits.package_depth ≤ 16
+  pub article : limits.article_bytes ≤ article_limit
+  pub theory : limits.theory_bytes ≤ theory_limit
+  pub packages : limits.package_depth ≤ package_limit
 
 -- what stays the same through a link, over these files
 abbrev pub setting_of : Folder → code_setting.Setting → Setting

@@ -156,17 +156,7 @@ fn article_exports<S: Source>(
     lines_law();
     let mut machine = Machine::new(setting.alloc);
     match machine.run_article(session, context, source, setting.limits.article_bytes) {
-        Ok(()) => copied(setting.alloc, machine.exports()),
+        Ok(()) => Ok(machine.into_exports()),
         Err(fault) => Err(fault),
-    }
-}
-
-fn copied(alloc: Global, exports: &[Export]) -> Result<Vec<Export>, ArticleFault>
-    ensures copy { IfOk result (λ copy. copy.items ≡ exports.now) }
-    ensures memory { IfErr result (λ e. e ≡ ArticleFault.Memory ran_out) }
-{
-    match Vec::from_slice(alloc, exports) {
-        Ok(copy) => Ok(copy),
-        Err(refused) => Err(ArticleFault::Memory(Memory::from(refused))),
     }
 }

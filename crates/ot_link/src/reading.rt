@@ -3,6 +3,7 @@ ghost use Rattle.std.specs.Prelude.{◌≡◌, ◌≤◌, ℕ, List, [], Option,
 ghost use Rattle.ot_io.specs.Keeping.{KeepsFiles};
 ghost use Rattle.ot_io.specs.Readings.{HasReadFiles};
 ghost use Rattle.ot_kernel.specs.State.{State};
+ghost use Rattle.ot_logic.specs.Limits.{theory_limit};
 ghost use Rattle.ot_theory.specs.Theory.{theory, has_block};
 ghost use Rattle.ot_theory.specs.Sound.{IsSound};
 ghost use Rattle.ot_theory.specs.Answers.{theory_of, blocks_of};
@@ -64,7 +65,7 @@ pub(crate) fn theory_text<F: Files>(
     files: &mut F,
     path: &str,
 ) -> Result<Vec<u8>, LinkFault>
-    requires { setting.limits.now.theory_bytes ≤ 1048576 }
+    requires { setting.limits.now.theory_bytes ≤ theory_limit }
     ensures comes { HasReadFiles (F.folder files.old) (λ folder. (k : State)
         → Comes k (λ text. text.items) result (text_at (setting_of folder setting.entry) path.now)) }
     ensures symbols { IfErr result (λ e. (k : State) → NamesSymbolIn k e) }

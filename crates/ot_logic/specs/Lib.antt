@@ -7,6 +7,7 @@ pub mod Trees
 pub mod Hol
 pub mod NamedTerms
 pub mod Faults
+pub mod Limits
 pub mod Answers
 pub mod Rules
 pub mod Renamed

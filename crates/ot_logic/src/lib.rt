@@ -11,7 +11,7 @@ mod tree;
 
 pub use command::Cmd;
 pub use kind::Kind;
-pub use limits::{DEPTH_LIMIT, Limits};
+pub use limits::{DEPTH_LIMIT, INDEX_LIMIT, Limits, TEXT_LIMIT};
 pub use memory::Memory;
 pub use name::{Name, NameFault, one_answer, one_name, one_spelling};
 pub use names::{NameId, Names};

@@ -1,4 +1,6 @@
+//! What the program takes at the most.
 ghost use Rattle.std.specs.Prelude.{◌≡◌};
+ghost use Rattle.ot_logic.specs.Limits.{standard_limits};
 
 /// What the program takes at the most.
 #[derive(Clone, Copy)]
@@ -18,18 +20,16 @@ pub struct Limits {
 /// The greatest depth of a type, a term or a list.
 pub const DEPTH_LIMIT: u32 = 4096;
 
+/// The most bytes of a readable text.
+pub const TEXT_LIMIT: usize = 1_048_576;
+
+/// The most bytes of a list of packages.
+pub const INDEX_LIMIT: usize = 1_048_576;
+
 impl Limits {
     /// The limits of the program.
     pub fn standard() -> Limits
-        ensures { result
-            ≡ record {
-              article_bytes = 4294967296;
-              theory_bytes = 1048576;
-              package_depth = 16;
-              summary_bytes =
-                  67108864;
-              written_bytes = 4294967296;
-            } }
+        ensures { result ≡ standard_limits }
     {
         Limits {
             article_bytes: 4_294_967_296,

@@ -86,6 +86,13 @@ impl Machine {
         &self.exports
     }
 
+    /// The same, where the machine is done with.
+    pub fn into_exports(self) -> Vec<Export>
+        ensures { result.items ≡ self.exports.items }
+    {
+        self.exports
+    }
+
     /// One command. The first fault of the stated machine counts; after it, and after running out of memory, the state is as
     /// before. The machine's numbers, and the context's names and theorems, have to be of this session.
     // Inlined into the loop over lines, with what it calls for most words: a call a line costs as much as a short row.

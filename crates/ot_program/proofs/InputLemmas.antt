@@ -8,6 +8,7 @@ use Rattle.std.specs.Option.{option_map}
 use Rattle.ot_logic.specs.Names.{Name}
 use Rattle.ot_logic.specs.Faults.{Fault}
 use Rattle.ot_logic.specs.declared.limits.Limits.{Limits}
+use Rattle.ot_logic.specs.Limits.{article_limit, standard_limits}
 use Rattle.ot_io.specs.Causes.{CountRose}
 use Rattle.ot_io.specs.Folder.{Folder, bytes_at, GivesFile}
 use Rattle.ot_io.specs.Reading.{HasRead}
@@ -29,7 +30,7 @@ use Rattle.ot_link.specs.declared.fault.LinkFault.{LinkFault}
 use Rattle.ot_link.specs.declared.fault.LinkFault.TheVariants as faults
 use Rattle.ot_program.specs.World.{World, Every, HasReadWorld, HasReadFolder}
 use Rattle.ot_program.specs.Tasks.{RunInput, is_standard}
-use Rattle.ot_program.specs.Runs.{limits, article_limit, start, outcome, theory_run, standard_run, article_run}
+use Rattle.ot_program.specs.Runs.{limits, start, outcome, theory_run, standard_run, article_run}
 use Rattle.ot_program.specs.Runs.{run_at, IsOwnStop, IsInputStop}
 use Rattle.ot_program.specs.Answer.{FileFailed}
 use Rattle.ot_program.specs.Endings.{End, Finished, Stopped, Failed, end_of, IsAnswer, HasTaskCause, HasTaskEnd}
@@ -42,15 +43,7 @@ use Rattle.ot_program.proofs.Worlds.{HasFolders, folder_of, world_of_input, worl
 
 -- ---- theory files
 
-pub limits_are : (l : Limits)
-    → l
-    ≡ record {
-      article_bytes = 4294967296;
-      theory_bytes = 1048576;
-      package_depth = 16;
-      summary_bytes = 67108864;
-      written_bytes = 4294967296;
-    } → l ≡ limits
+pub limits_are : (l : Limits) → l ≡ standard_limits → l ≡ limits
 unfolding limits
 limits_are l same = same
 

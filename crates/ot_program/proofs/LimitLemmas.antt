@@ -1,10 +1,10 @@
 -- A text that was printed within the limit, or is too large for it.
 use Rattle.std.proofs.Common.{◌≡◌, ℕ, ◌<◌, ◌≤◌, List, [], ◌++◌, length, ap, ◌∙◌, arith}
+use Rattle.ot_logic.specs.Limits.{summary_limit, written_limit}
 use Rattle.std.specs.Prelude.{nat_le, MatchBool, Result, Ok, Err, IfOk}
 use Rattle.std.proofs.lemmas.Bool.{le-leb, lt-leb}
 use Rattle.ot_text.specs.Pages.{Appended}
 use Rattle.ot_link.specs.Blocks.{Ran}
-use Rattle.ot_program.specs.Runs.{summary_limit, written_limit}
 use Rattle.ot_program.specs.RunInput.{log_text}
 use Rattle.ot_program.specs.Verdicts.{IsSaid, LogEndsAs}
 use Rattle.ot_program.specs.declared.report.Verdict.{Verdict}

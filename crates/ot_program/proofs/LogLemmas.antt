@@ -1,5 +1,6 @@
 -- The result of the check of a log.
 use Rattle.std.proofs.Common.{◌≡◌, ◌∙◌, List, ℕ, inl, ap, sym, refl}
+use Rattle.ot_logic.specs.Limits.{article_limit}
 use Rattle.std.specs.Prelude.{true, false, Option, Some, None, IfSome, Result, Ok, Err, IfOk}
 use Rattle.std.proofs.lemmas.Option.{slice_get-get_or}
 use Rattle.ot_io.specs.Folder.{Folder, bytes_at, GivesFile}
@@ -11,7 +12,6 @@ use Rattle.ot_verify.specs.Reading.{log_check}
 use Rattle.ot_verify.specs.Verifying.{Proved, AreProved, Verifies}
 use Rattle.ot_program.specs.World.{World, HasReadWorld}
 use Rattle.ot_program.specs.Tasks.{CheckLog, is_standard}
-use Rattle.ot_program.specs.Runs.{article_limit}
 use Rattle.ot_program.specs.Command.{IsProved}
 use Rattle.ot_program.specs.CheckLog.{LogStop, NoLog, log_lists, log_end, check_bytes, check_file, log_status}
 use Rattle.ot_program.specs.Endings.{End, Finished, log_end_of, IsAnswer, HasCause, HasTaskCause, HasTaskEnd}

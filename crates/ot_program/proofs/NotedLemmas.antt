@@ -13,6 +13,7 @@ use Rattle.ot_logic.specs.Trees.{Sequent, Definition}
 use Rattle.ot_logic.specs.Lists.{IsMember}
 use Rattle.ot_logic.specs.declared.limits.Limits.{Limits}
 use Rattle.ot_logic.proofs.Members.{IsMember-left, IsMember-right}
+use Rattle.ot_logic.specs.Limits.{summary_limit}
 use Rattle.ot_io.specs.Causes.{CountRose}
 use Rattle.ot_io.specs.Folder.{Folder}
 use Rattle.ot_io.specs.Readings.{HasReadFiles}
@@ -40,7 +41,7 @@ use Rattle.ot_program.specs.World.{World, Every, HasReadWorld}
 use Rattle.ot_program.specs.Tasks.{RunInput, ShowReadable, is_standard}
 use Rattle.ot_program.specs.Runs.{Noted, limits, theory_run, theory_shown, shown_at, noted, noted_at, run_at}
 use Rattle.ot_program.specs.Runs.{opened_at, opened_noted}
-use Rattle.ot_program.specs.Runs.{notation, assumptions_of, definitions_of, exports_of, summary_limit, stop_status}
+use Rattle.ot_program.specs.Runs.{notation, assumptions_of, definitions_of, exports_of, stop_status}
 use Rattle.ot_program.specs.Runs.{IsInputStop}
 use Rattle.ot_program.specs.Command.{run_lists, IsProved, LeavesOther, LastInput}
 use Rattle.ot_program.specs.ShowReadable.{readable, AreReadBack}

@@ -8,6 +8,7 @@ use Rattle.std.proofs.lemmas.Bool.{le-leb, lt-leb}
 use Rattle.std.specs.Option.{option_map, option_and_then}
 use Rattle.ot_logic.specs.Names.{Name}
 use Rattle.ot_logic.specs.Trees.{Tm, Sequent, Symbol}
+use Rattle.ot_logic.specs.Limits.{text_limit}
 use Rattle.ot_io.specs.Folder.{Folder, path_asked, bytes_at}
 use Rattle.ot_io.specs.Readings.{HasReadFiles}
 use Rattle.ot_io.proofs.Readings.{Files-map}
@@ -32,7 +33,7 @@ use Rattle.ot_read.specs.Laws.{TermsReadByForms, LinesReadByForms, TextsReadByFo
 use Rattle.ot_read.proofs.Alike.{term-alike, lines-alike}
 use Rattle.ot_program.specs.World.{World, Every, HasReadWorld}
 use Rattle.ot_program.specs.Tasks.{ShowReadable, ReadLines, is_standard}
-use Rattle.ot_program.specs.Runs.{Noted, noted_at, notation, text_limit}
+use Rattle.ot_program.specs.Runs.{Noted, noted_at, notation}
 use Rattle.ot_program.specs.Command.{LastInput, LastOf}
 use Rattle.ot_program.specs.ReadLines.{Readings, ReadStop, NoText, TextTooLarge, text_in, read_in, read_at}
 use Rattle.ot_program.specs.ReadLines.{read_behind, IsLineStop}

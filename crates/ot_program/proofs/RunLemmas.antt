@@ -16,10 +16,11 @@ use Rattle.ot_machine.specs.Writable.{IsWritable}
 use Rattle.ot_uses.specs.Suffices.{UsesSuffice}
 use Rattle.ot_logic.specs.Names.{Name}
 use Rattle.ot_logic.specs.Trees.{Sequent, Definition}
+use Rattle.ot_logic.specs.Limits.{summary_limit}
 use Rattle.ot_print.specs.Texts.{summary_text}
 use Rattle.ot_text.specs.Pages.{Appended}
 use Rattle.ot_program.specs.Texts.{large_line}
-use Rattle.ot_program.specs.Runs.{assumptions_of, definitions_of, exports_of, summary_limit}
+use Rattle.ot_program.specs.Runs.{assumptions_of, definitions_of, exports_of}
 use Rattle.ot_program.specs.Command.{run_lists, IsProved}
 use Rattle.ot_program.specs.RunInput.{summary, AreSupported}
 use Rattle.ot_program.specs.Endings.{ran_from}

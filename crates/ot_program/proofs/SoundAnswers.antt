@@ -8,6 +8,7 @@ use Rattle.ot_logic.specs.Names.{Name}
 use Rattle.ot_logic.specs.Naming.{names}
 use Rattle.ot_logic.specs.Trees.{Sequent}
 use Rattle.ot_logic.specs.Answers.{◌>>=◌, some_or}
+use Rattle.ot_logic.specs.Limits.{article_limit}
 use Rattle.ot_laws.specs.Theorem.{IsTheorem}
 use Rattle.ot_laws.proofs.Grown.{accepted-nil}
 use Rattle.ot_io.specs.Folder.{Folder, bytes_at}
@@ -29,7 +30,7 @@ use Rattle.ot_sample.specs.Sample.{sample}
 use Rattle.ot_program.specs.World.{World}
 use Rattle.ot_program.specs.Tasks.{TaskValue, RunInput, RunSample, MakeSample, CheckLog, ShowReadable}
 use Rattle.ot_program.specs.Tasks.{ReadLines, FindPattern, is_standard}
-use Rattle.ot_program.specs.Runs.{run_at, standard_run, article_run, theory_run, outcome, article_limit}
+use Rattle.ot_program.specs.Runs.{run_at, standard_run, article_run, theory_run, outcome}
 use Rattle.ot_program.specs.Runs.{limits, Noted, shown_at, noted, noted_at, notation}
 use Rattle.ot_program.specs.Command.{run_lists, IsProved}
 use Rattle.ot_program.specs.Samples.{sample_path}

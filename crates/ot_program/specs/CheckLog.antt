@@ -3,12 +3,12 @@ use Rattle.std.specs.Prelude.{ℕ, List, [], ◌∷◌, true, length, nat_le, Re
 use Rattle.ot_io.specs.Folder.{Folder, bytes_at, path_asked}
 use Rattle.ot_logic.specs.Answers.{◌>>=◌, some_or}
 use Rattle.ot_logic.specs.Names.{Name}
+use Rattle.ot_logic.specs.Limits.{article_limit, summary_limit}
 use Rattle.ot_log_format.specs.Check.{Outcome as LogOutcome, Ends, Stops}
 use Rattle.ot_log_format.specs.Tokens.{LogFault}
 use Rattle.ot_verify.specs.Reading.{log_check}
 use Rattle.ot_verify.specs.Verifying.{Proved, proved_by, proved_text}
 use Rattle.ot_program.specs.Command.{Lists, LeavesOther, IsInputPath, Command}
-use Rattle.ot_program.specs.Runs.{article_limit, summary_limit}
 use Rattle.ot_program.specs.Tasks.{is_standard}
 use Rattle.ot_program.specs.Texts.{log_line, missing_line, large_line}
 use Rattle.ot_program.specs.World.{World}

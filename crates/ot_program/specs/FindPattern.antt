@@ -15,11 +15,12 @@ use Rattle.ot_logic.specs.Answers.{◌>>=◌}
 use Rattle.ot_logic.specs.Lists.{IsMember}
 use Rattle.ot_logic.specs.Names.{Name}
 use Rattle.ot_logic.specs.Trees.{Tm, Symbol}
+use Rattle.ot_logic.specs.Limits.{summary_limit}
 use Rattle.ot_read.specs.Lines.{RefusedLine, at_line, term_read}
 use Rattle.ot_repo.specs.Laws.{IsWalked}
 use Rattle.ot_repo.specs.Required.{Refusal, Missing as NotThere, required}
 use Rattle.ot_program.specs.Command.{run_lists, IsProved, LeavesOther, LastInput, IsInputPath, HasNoStop, Command}
-use Rattle.ot_program.specs.Runs.{summary_limit, limits, theory_run, exports_of, Noted, theory_shown, noted, noted_at}
+use Rattle.ot_program.specs.Runs.{limits, theory_run, exports_of, Noted, theory_shown, noted, noted_at}
 use Rattle.ot_program.specs.Runs.{opened_noted, notation, stop_status, IsInputStop}
 use Rattle.ot_program.specs.Tasks.{is_standard}
 use Rattle.ot_program.specs.Texts.{stop_line, required_line, column_line, large_line}

@@ -5,12 +5,13 @@ use Rattle.ot_link.specs.Stops.{Stop}
 use Rattle.ot_logic.specs.Answers.{◌>>=◌, some_or, unless}
 use Rattle.ot_logic.specs.Names.{Name}
 use Rattle.ot_logic.specs.Trees.{Sequent, Symbol}
+use Rattle.ot_logic.specs.Limits.{summary_limit, text_limit}
 use Rattle.ot_forms.specs.Words.{IsNotation}
 use Rattle.ot_read.specs.Laws.{StandFor, IsFirstRefused}
 use Rattle.ot_read.specs.Lines.{RefusedLine, lines_read, sequent_lines}
 use Rattle.ot_theory.specs.Lines.{LineText, lines_of as text_lines}
 use Rattle.ot_program.specs.Command.{run_lists, LastOf, IsInputPath, HasNoStop, Command}
-use Rattle.ot_program.specs.Runs.{summary_limit, text_limit, Noted, noted, noted_at, opened_noted, notation}
+use Rattle.ot_program.specs.Runs.{Noted, noted, noted_at, opened_noted, notation}
 use Rattle.ot_program.specs.Runs.{stop_status, IsInputStop}
 use Rattle.ot_program.specs.Tasks.{is_standard}
 use Rattle.ot_program.specs.Texts.{stop_line, column_line, missing_line, large_line, large_text_line}

@@ -1,5 +1,6 @@
 -- The commands that run an input and print a part of its result: `check`, `info`, `link`, `minimise` and `prove`.
 use Rattle.std.specs.Fmt.{decimal}
+use Rattle.ot_logic.specs.Limits.{article_limit, summary_limit, written_limit}
 use Rattle.std.specs.List.{concat, All}
 use Rattle.std.specs.Prelude.{ℕ, List, [], ◌∷◌, Bool, true, length, codes, nat_le, ◌≡◌}
 use Rattle.ot_args.specs.declared.sections.Sections.{Sections}
@@ -12,7 +13,7 @@ use Rattle.ot_uses.specs.Suffices.{IsSupported}
 use Rattle.ot_uses.specs.Texts.{uses_text}
 use Rattle.ot_uses.specs.Used.{support_of}
 use Rattle.ot_program.specs.Command.{run_lists, LeavesOther, LastInput, IsInputPath, Command}
-use Rattle.ot_program.specs.Runs.{article_limit, summary_limit, written_limit, run_at, opened_at, assumptions_of}
+use Rattle.ot_program.specs.Runs.{run_at, opened_at, assumptions_of}
 use Rattle.ot_program.specs.Runs.{definitions_of, exports_of, stop_status, IsInputStop}
 use Rattle.ot_program.specs.Tasks.{is_standard}
 use Rattle.ot_program.specs.Texts.{stop_line, large_line, large_article_line, large_log_line}

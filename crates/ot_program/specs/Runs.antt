@@ -10,6 +10,7 @@ use Rattle.ot_logic.specs.Answers.{◌>>=◌, some_or}
 use Rattle.ot_logic.specs.Names.{Name}
 use Rattle.ot_logic.specs.Naming.{names}
 use Rattle.ot_logic.specs.Trees.{Sequent, Definition, Symbol}
+use Rattle.ot_logic.specs.Limits.{article_limit, standard_limits}
 use Rattle.ot_logic.specs.declared.limits.Limits.{Limits}
 use Rattle.ot_machine.specs.Run.{Outcome, run}
 use Rattle.ot_machine.specs.States.{State, no_context, fresh_article, fresh_run}
@@ -22,31 +23,9 @@ use Rattle.ot_program.specs.declared.status.Status.TheVariants.{Refused, NoFile}
 
 -- ---- limits
 
--- the most bytes of an article
-abbrev pub article_limit : ℕ
-article_limit = 4294967296
-
--- the most bytes of a summary
-abbrev pub summary_limit : ℕ
-summary_limit = 67108864
-
--- the most bytes of a readable text
-abbrev pub text_limit : ℕ
-text_limit = 1048576
-
--- the most bytes of a written article, and of a proof log that is written
-abbrev pub written_limit : ℕ
-written_limit = 4294967296
-
 -- the limits of the program
 unfoldable pub limits : Limits
-limits = record {
-  article_bytes = article_limit;
-  theory_bytes = 1048576;
-  package_depth = 16;
-  summary_bytes = summary_limit;
-  written_bytes = written_limit;
-}
+limits = standard_limits
 
 -- ---- the run of an input
 

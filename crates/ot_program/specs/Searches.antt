@@ -7,6 +7,7 @@ use Rattle.ot_logic.specs.Lists.{IsMember}
 use Rattle.ot_logic.specs.declared.memory.Memory.{Memory as NoMemory}
 use Rattle.ot_logic.specs.Names.{Name}
 use Rattle.ot_logic.specs.Trees.{Tm}
+use Rattle.ot_logic.specs.Limits.{summary_limit}
 use Rattle.ot_args.specs.Grammar.{is_theory}
 use Rattle.ot_io.specs.Folder.{Folder}
 use Rattle.ot_blocks.specs.Paths.{package_path}
@@ -25,7 +26,7 @@ use Rattle.ot_find.specs.declared.search.Search.{Search}
 use Rattle.ot_program.specs.Texts.{stop_line, required_line, column_line, large_line, read_fault_line}
 use Rattle.ot_program.specs.World.{World, Every}
 use Rattle.ot_program.specs.Tasks.{ShowReadable, FindPattern}
-use Rattle.ot_program.specs.Runs.{limits, theory_run, notation, exports_of, Noted, summary_limit, stop_status}
+use Rattle.ot_program.specs.Runs.{limits, theory_run, notation, exports_of, Noted, stop_status}
 use Rattle.ot_program.specs.Runs.{IsInputStop}
 use Rattle.ot_program.specs.Command.{run_lists, IsProved}
 use Rattle.ot_program.specs.FindPattern.{PackageRun, Searched, package_runs, required_at, sources, found, pattern_path}

@@ -1,9 +1,10 @@
 -- The command `info --readable`.
 use Rattle.std.specs.Prelude.{ℕ, List, true, length, nat_le, ◌≡◌}
+use Rattle.ot_logic.specs.Limits.{summary_limit}
 use Rattle.ot_link.specs.Stops.{Stop}
 use Rattle.ot_pretty.specs.Summary.{readable_summary, ReadBack}
 use Rattle.ot_program.specs.Command.{run_lists, LeavesOther, LastInput, IsInputPath, Command}
-use Rattle.ot_program.specs.Runs.{summary_limit, assumptions_of, exports_of, Noted, noted_at, opened_noted, notation}
+use Rattle.ot_program.specs.Runs.{assumptions_of, exports_of, Noted, noted_at, opened_noted, notation}
 use Rattle.ot_program.specs.Runs.{stop_status, IsInputStop}
 use Rattle.ot_program.specs.Tasks.{is_standard}
 use Rattle.ot_program.specs.Texts.{stop_line, large_line}

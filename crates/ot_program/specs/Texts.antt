@@ -141,6 +141,10 @@ column_line path number column fault =
 abbrev pub large_text_line : List ℕ → List ℕ
 large_text_line path = line_of path (codes "text longer than 1048576 bytes")
 
+-- the line of a theory file that is too large
+abbrev pub large_theory_line : List ℕ → List ℕ
+large_theory_line path = line_of path (codes "theory longer than 1048576 bytes")
+
 -- the line for a summary that is too large
 abbrev pub large_line : List ℕ → List ℕ
 large_line path = line_of path (codes "summary larger than 67108864 bytes")
@@ -162,13 +166,13 @@ abbrev pub stop_line : Stop → List ℕ
 stop_line (InArticle path number fault) = fault_line path number fault
 stop_line (InTheory path number fault) = line_at path number (theory_text fault)
 stop_line (InStructure path number fault) = line_at path number (structure_text fault)
-stop_line (TooLarge path) = line_of path (codes "theory longer than 1048576 bytes")
+stop_line (TooLarge path) = large_theory_line path
 stop_line (Missing path) = missing_line path
 
 -- the line for packages that are refused so
 abbrev pub required_line : Refusal → List ℕ
 required_line (repo.Theory path number fault) = line_at path number (theory_text fault)
-required_line (repo.TheoryTooLarge path) = line_of path (codes "theory longer than 1048576 bytes")
+required_line (repo.TheoryTooLarge path) = large_theory_line path
 required_line (repo.IndexTooLarge path) = line_of path (codes "package list longer than 1048576 bytes")
 required_line (repo.BadIndex path number) = line_at path number (codes "bad package name")
 required_line (repo.NotInstalled path number) = line_at path number (codes "required package not installed")

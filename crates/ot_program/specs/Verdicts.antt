@@ -5,6 +5,7 @@ use Rattle.std.specs.Io.KnownBytes.{Appends}
 use Rattle.std.specs.Global.{Global}
 use Rattle.ot_logic.specs.Names.{Name}
 use Rattle.ot_logic.specs.Trees.{Sequent}
+use Rattle.ot_logic.specs.Limits.{summary_limit}
 use Rattle.ot_args.specs.declared.sections.Sections.{Sections}
 use Rattle.ot_io.specs.Sinks.{AppendsFront}
 use Rattle.ot_machine.specs.declared.machine.Export.{Export}
@@ -19,7 +20,7 @@ use Rattle.ot_program.specs.Texts.{stop_line, large_line, large_article_line, la
 use Rattle.ot_program.specs.Texts.{write_fault_line}
 use Rattle.ot_program.specs.World.{World}
 use Rattle.ot_program.specs.Tasks.{TaskValue}
-use Rattle.ot_program.specs.Runs.{Noted, summary_limit, stop_status}
+use Rattle.ot_program.specs.Runs.{Noted, stop_status}
 use Rattle.ot_program.specs.Command.{IsProved}
 use Rattle.ot_program.specs.RunInput.{article_text, article_fits, log_text, log_fits, summary, uses}
 use Rattle.ot_program.specs.ShowReadable.{readable}

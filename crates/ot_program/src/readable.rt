@@ -1,10 +1,10 @@
 //! The readable text of a run.
 ghost use Rattle.std.specs.Prelude.{◌≡◌, true, List, length, nat_le, IfOk, IfErr, OnOk, ℕ};
+ghost use Rattle.ot_logic.specs.Limits.{summary_limit};
 ghost use Rattle.std.specs.List.{All};
 ghost use Rattle.ot_link.specs.Answers.{NamesSymbolIn};
 ghost use Rattle.ot_machine.specs.Meaning.{IsRun, IsExportIn};
 ghost use Rattle.ot_program.specs.Tasks.{ShowReadable};
-ghost use Rattle.ot_program.specs.Runs.{summary_limit};
 ghost use Rattle.ot_program.specs.ShowReadable.{readable, AreReadBack};
 ghost use Rattle.ot_program.specs.Endings.{noted_from, noted_end_of};
 ghost use Rattle.ot_program.specs.Verdicts.{IsVerdictOf, ReadableEndsAs};

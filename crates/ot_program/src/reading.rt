@@ -27,15 +27,12 @@ use crate::report::{
 };
 use crate::texts::{column_line, line_of};
 use ot_io::{FileFault, Files, Source, read_file};
-use ot_logic::{Limits, Memory};
+use ot_logic::{Limits, Memory, TEXT_LIMIT};
 use ot_machine::Session;
 use ot_parse::{PlainFault, Readable, TextFault};
 use ot_pretty::run_notation;
 use ot_read::{LineRefusal, as_the_forms_say, read_lines, sequents_text};
 use std::alloc::Global;
-
-/// The most bytes of a readable text.
-const TEXT_LIMIT: usize = 1_048_576;
 
 /// The bytes of a text, with the sequents that its lines stand for.
 #[derive(Drop)]

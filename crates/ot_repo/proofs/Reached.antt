@@ -9,6 +9,7 @@ use Rattle.std.proofs.lemmas.Bool.{cases_Bool}
 use Rattle.ot_io.specs.Folder.{Folder}
 use Rattle.ot_logic.specs.Lists.{IsMember}
 use Rattle.ot_logic.specs.Answers.{◌>>=◌}
+use Rattle.ot_logic.specs.Limits.{index_limit}
 use Rattle.ot_theory.specs.Lines.{lines_of}
 use Rattle.ot_theory.specs.Theory.{TagText, TheoryText, theory}
 use Rattle.ot_theory.specs.Answers.{tag_of, tags_of, theory_of}
@@ -17,7 +18,7 @@ use Rattle.ot_theory.specs.declared.theory.Theory.{Theory}
 use Rattle.ot_repo.specs.Walk.{Edge, walk_from}
 use Rattle.ot_repo.specs.Walks.{Reaches, First, Further, IsReached}
 use Rattle.ot_repo.specs.Required.{Refusal, TheoryTooLarge, IndexTooLarge, text_at, in_file}
-use Rattle.ot_repo.specs.Required.{theory_at, is_requirement, requirements, index_limit}
+use Rattle.ot_repo.specs.Required.{theory_at, is_requirement, requirements}
 use Rattle.ot_repo.specs.Required.{names_of, index_at, index_path, edges_in, edges_of, walked}
 use Rattle.ot_repo.specs.Required.{required_listed, required_over}
 use Rattle.ot_repo.specs.Laws.{IsWalked, OwnFile, ListFile, PackageFile}

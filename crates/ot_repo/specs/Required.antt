@@ -5,6 +5,7 @@ use Rattle.std.specs.List.{list_any, filter}
 use Rattle.std.specs.Str.{bytes_eq}
 use Rattle.ot_io.specs.Folder.{Folder, bytes_at}
 use Rattle.ot_logic.specs.Answers.{◌>>=◌, unless, some_or}
+use Rattle.ot_logic.specs.Limits.{index_limit}
 use Rattle.ot_theory.specs.Lines.{LineText, lines_of}
 use Rattle.ot_theory.specs.Theory.{TagText, TheoryText, theory}
 use Rattle.ot_theory.specs.declared.fault.TheoryFault.{TheoryFault}
@@ -56,10 +57,6 @@ requirements t = filter is_requirement t.tags
 -- its path, in the folder of packages
 abbrev pub index_path : List ℕ → List ℕ
 index_path packages = packages ++ codes "/installed"
-
--- the most bytes that it may have
-abbrev pub index_limit : ℕ
-index_limit = 1048576
 
 -- the texts of these lines, or the first one that is no full name
 abbrev pub full_names : List ℕ → List LineText → Option LineText → Result (List (List ℕ)) Refusal

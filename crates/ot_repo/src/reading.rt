@@ -1,21 +1,20 @@
 //! The files that are read.
 ghost use Rattle.std.specs.Prelude.{◌≡◌, List, IfErr};
+ghost use Rattle.ot_logic.specs.Limits.{index_limit};
 ghost use Rattle.ot_io.specs.Readings.{HasReadFiles};
 ghost use Rattle.ot_io.specs.Keeping.{KeepsFiles};
 ghost use Rattle.ot_theory.specs.Theory.{theory};
 ghost use Rattle.ot_theory.specs.Answers.{theory_of};
-ghost use Rattle.ot_repo.specs.Required.{TheoryTooLarge, IndexTooLarge, text_at, in_file, index_limit};
+ghost use Rattle.ot_repo.specs.Required.{TheoryTooLarge, IndexTooLarge, text_at, in_file};
 ghost use Rattle.ot_repo.specs.Answers.{FailsAt, IsAsStated, HasCause, IsOfContent};
 ghost use Rattle.std.specs.Option.{option_map};
 ghost use Rattle.ot_repo.specs.Reading.{sized_at};
 
 use crate::fault::RepoFault;
 use ot_io::{FileFault, Files, read_file};
+use ot_logic::INDEX_LIMIT;
 use ot_theory::{Theory, TheoryError, parse};
 use std::alloc::Global;
-
-/// The most bytes that the list of installed packages may have.
-const INDEX_LIMIT: usize = 1_048_576;
 
 /// The text of a theory file, which is within this limit.
 pub(crate) fn theory_text<F: Files>(

@@ -1,7 +1,7 @@
 use Rattle.ot_io.proofs.Reading.{HasRead-map}
 use Rattle.ot_scan.specs.Lines.{lines_of}
-use Rattle.std.proofs.Common.{◌≡◌, refl, subst}
-use Rattle.std.specs.Prelude.{IfOk, Ok, Err}
+use Rattle.std.proofs.Common.{◌≡◌, refl}
+use Rattle.std.specs.Prelude.{Ok, Err}
 use Rattle.ot_machine.specs.Contexts.{context_of}
 use Rattle.ot_machine.specs.Meaning.{machine_state}
 use Rattle.ot_machine.proofs.Led.{read-leads}
@@ -18,12 +18,10 @@ returns-in-Ok-clause-ends g c =
     HasRead-map c.in-Ok.ensures.runs (λ ok. refl)
     (λ bytes rest h. article-ended s0 c.run_article.new.session c.new-machine.result c.run_article.new.self
     (context_of s0 c.args.context.now) (lines_of c.args.setting.limits.now.article_bytes bytes)
-    (c.new-machine.ensures.fresh s0) _ h
-    (subst (λ xs. IfOk c.copied.result (λ copy. copy.items ≡ xs)) c.exports.ensures c.copied.ensures.copy)
-    c.copied.ensures.memory)
+    (c.new-machine.ensures.fresh s0) c.into_exports.result h c.into_exports.ensures)
 
-pub returns-clause-ends : goal.returns-clause-ends
-returns-clause-ends g c =
+pub returns-in-Err-clause-ends : goal.returns-in-Err-clause-ends
+returns-in-Err-clause-ends g c =
     let s0 = c.args.session.now in
     HasRead-map c.in-Err.ensures.runs (λ ok. ok)
     (λ bytes rest h. article-stopped s0 c.run_article.new.session c.new-machine.result c.run_article.new.self
@@ -39,12 +37,10 @@ returns-in-Ok-clause-left g c =
     (read-leads (context_of s0 c.args.context.now) (machine_state s0 c.new-machine.result) c.run_article.new.session.kernel (Ok (tt {0}))
     c.args.setting.limits.now.article_bytes (machine_state c.run_article.new.session c.run_article.new.self) _ _
     c.in-Ok.ensures.runs) c.in-Ok.ensures.grown c.in-Ok.ensures.of
-    c.copied.result
-    (subst (λ xs. IfOk c.copied.result (λ copy. copy.items ≡ xs)) c.exports.ensures c.copied.ensures.copy)
-    c.copied.ensures.memory
+    c.into_exports.result c.into_exports.ensures
 
-pub returns-clause-left : goal.returns-clause-left
-returns-clause-left g c =
+pub returns-in-Err-clause-left : goal.returns-in-Err-clause-left
+returns-in-Err-clause-left g c =
     let s0 = c.args.session.now in
     article-refused s0 c.run_article.new.session c.new-machine.result c.run_article.new.self c.args.context.now
     c.fresh_law.ensures.written c.lines_law.ensures.written c.lines_law.ensures.said

@@ -1,7 +1,7 @@
 use Rattle.std.specs.Prelude.{true, nat_le, IfOk, OnOk}
 use Rattle.std.proofs.Common.{◌≡◌, ◌∙◌, ap, subst, List, length, map, Err}
 use Rattle.ot_logic.specs.Names.{Name}
-use Rattle.ot_program.specs.Runs.{summary_limit}
+use Rattle.ot_logic.specs.Limits.{summary_limit}
 use Rattle.ot_program.specs.ShowReadable.{readable, AreReadBack}
 use Rattle.ot_program.specs.Endings.{noted_from}
 use Rattle.ot_program.specs.Verdicts.{ReadableEndsAs}

@@ -1,7 +1,7 @@
 use Rattle.std.proofs.Common.{◌≡◌, ap, Err}
+use Rattle.ot_logic.specs.Limits.{summary_limit}
 use Rattle.ot_verify.specs.Verifying.{proved_text}
 use Rattle.ot_program.specs.Texts.{large_line}
-use Rattle.ot_program.specs.Runs.{summary_limit}
 use Rattle.ot_program.proofs.LimitLemmas.{text_printed, text_too_large}
 use Rattle.ot_program.proofs.report.log_summary.Goals as goal
 

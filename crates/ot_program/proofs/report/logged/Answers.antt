@@ -1,5 +1,5 @@
 use Rattle.std.proofs.Common.{◌≡◌, ap}
-use Rattle.ot_program.specs.Runs.{written_limit}
+use Rattle.ot_logic.specs.Limits.{written_limit}
 use Rattle.ot_program.specs.Endings.{ran_from}
 use Rattle.ot_program.proofs.LimitLemmas.{log_written}
 use Rattle.ot_program.proofs.report.logged.Goals as goal

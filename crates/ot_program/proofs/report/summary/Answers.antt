@@ -1,5 +1,5 @@
 use Rattle.std.proofs.Common.{◌≡◌, ◌∙◌, ap, map, Err}
-use Rattle.ot_program.specs.Runs.{summary_limit}
+use Rattle.ot_logic.specs.Limits.{summary_limit}
 use Rattle.ot_program.proofs.RunLemmas.{exported_within, summary_printed, summary_too_large}
 use Rattle.ot_program.proofs.report.summary.Goals as goal
 

@@ -1,5 +1,5 @@
 use Rattle.std.proofs.Common.{◌≡◌, ap}
-use Rattle.ot_program.specs.Runs.{summary_limit}
+use Rattle.ot_logic.specs.Limits.{summary_limit}
 use Rattle.ot_program.specs.RunInput.{uses}
 use Rattle.ot_program.specs.Texts.{large_line}
 use Rattle.ot_program.specs.Endings.{ran_from}
