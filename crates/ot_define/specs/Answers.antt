@@ -1,5 +1,5 @@
 -- What the checks answer, against the conditions.
-use Rattle.std.specs.Prelude.{◌≡◌, ◌&&◌, ℕ, List, [], ◌∷◌, map, Result, Ok, Err, Option, Some, None}
+use Rattle.std.specs.Prelude.{◌≡◌, ◌&&◌, ℕ, List, map, Result, Ok, Err, Option, Some, None}
 use Rattle.ot_logic.specs.Trees.{Alphabet, Variable, Named, Tm, Sequent}
 use Rattle.std.specs.List.{list_all}
 use Rattle.ot_logic.specs.Answers.{◌>>=◌, unless}
@@ -38,11 +38,6 @@ tm_at ts i = nameless numbers (term_at ts i)
 -- the sequent of these terms
 abbrev pub sequent_at : List (Named ℕ) → List ℕ → ℕ → Sequent ℕ
 sequent_at ts hyps concl = record { hyps = map (tm_at ts) hyps; concl = tm_at ts concl }
-
--- what an option holds, as a list
-abbrev pub listed : {X : Type 0} → Option X → List X
-listed None = []
-listed (Some x) = x ∷ []
 
 -- the last conditions of a list of constants, of the terms that the variables are given and the conclusion
 abbrev pub checked_given : Alphabet ℕ → List (Variable ℕ) → List (Tm ℕ) → Tm ℕ → Result (Unit {0}) (Fault ℕ)

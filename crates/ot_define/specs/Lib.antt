@@ -2,3 +2,4 @@
 pub mod Codes
 pub mod Signature
 pub mod Answers
+pub mod Given

@@ -1,22 +1,25 @@
 //! The check of a list of constants.
-ghost use Rattle.std.specs.Prelude.{◌≡◌, ◌<◌, ◌&&◌, ◌==◌, map, length, Option, Some, None, IfOk, IfSome, OnOk};
+ghost use Rattle.std.specs.Prelude.{◌≡◌, ℕ, ◌<◌, ◌&&◌, ◌==◌, List, [], ◌∷◌, ◌++◌, map, length};
+ghost use Rattle.std.specs.Prelude.{IfOk, IfSome, OnOk};
 ghost use Rattle.std.specs.List.{All, list_all};
 ghost use Rattle.std.specs.Option.{option_map};
 ghost use Rattle.ot_logic.specs.Faults.{BadDefinitionList, NotClosed, TypeVarEscapes};
-ghost use Rattle.ot_logic.specs.Trees.{ConSymbol, Free};
-ghost use Rattle.ot_logic.specs.Hol.{as_equation, same_tm, same_var, symbols_of};
+ghost use Rattle.ot_logic.specs.Trees.{ConSymbol};
+ghost use Rattle.ot_logic.specs.Hol.{as_equation, same_var, symbols_of};
 ghost use Rattle.ot_logic.specs.Naming.{numbers};
 ghost use Rattle.ot_logic.specs.Answers.{unless};
 ghost use Rattle.ot_term.specs.TermTable.{variable_of};
-ghost use Rattle.ot_laws.specs.Conditions.{are_distinct, checked_list, checked_symbols, given, given_by};
-ghost use Rattle.ot_laws.specs.Conditions.{is_closed, is_closed_but, keeps_type_vars, only, terms_given};
-ghost use Rattle.ot_define.specs.Answers.{Checks, checked_given, tm_at, sequent_at, listed};
+ghost use Rattle.ot_laws.specs.Conditions.{are_distinct, checked_list, checked_symbols};
+ghost use Rattle.ot_laws.specs.Conditions.{is_closed, keeps_type_vars, terms_given};
+ghost use Rattle.ot_define.specs.Answers.{Checks, checked_given, tm_at, sequent_at};
+ghost use Rattle.ot_define.specs.Given.{Keeps, as_variable, gives, only_kept};
 
 use crate::fault::DefineFault;
 use crate::premise::{check_closed_but, check_type_vars, pass_if};
 use crate::sets::are_distinct;
 use crate::signature::Signature;
 use crate::symbols::constant_symbols;
+use indexmap::IndexMap;
 use ot_logic::{Memory, NameId};
 use ot_term::{TermId, TermNode, Terms, VarKey};
 use std::alloc::Global;
@@ -141,9 +144,10 @@ fn terms_given(
         ≡ terms_given numbers (map (tm_at terms.now.terms) hyps.now) (map (variable_of terms.now.types) vars.now)) }
     ensures inside { IfOk result (λ found. IfSome found (λ ts. All (λ i. i < length terms.now.terms) ts.items)) }
 {
+    let all = all_given(alloc, terms, hyps)?;
     let mut given = Vec::new(alloc);
     for v in vars {
-        let Some(t) = only_given(terms, hyps, v) else {
+        let Some(t) = only_given(&all, v) else {
             return Ok(None);
         };
         given.push(t)?;
@@ -151,53 +155,80 @@ fn terms_given(
     Ok(Some(given))
 }
 
-/// The term of a variable that exactly one hypothesis gives one.
-fn only_given(terms: &Terms, hyps: &[TermId], v: &VarKey) -> Option<TermId>
-    requires var { v.now.ty < length terms.now.types }
-    requires hyps { All (λ i. i < length terms.now.terms) hyps.now }
-    ensures given { option_map (tm_at terms.now.terms) result
-        ≡ only (given numbers (map (tm_at terms.now.terms) hyps.now) (variable_of terms.now.types v.now)) }
-    ensures inside { IfSome result (λ t. t < length terms.now.terms) }
+/// The term of a variable that is given exactly one.
+fn only_given(all: &IndexMap<VarKey, Option<TermId>>, v: &VarKey) -> Option<TermId>
+    ensures { result ≡ only_kept all.now.entries v.now }
 {
-    let mut found = None;
-    for hyp in hyps {
-        if let Some(t) = given_by(terms, *hyp, v) {
-            if found.is_some() {
-                return None;
-            }
-            found = Some(t);
-        }
+    match all.get(v) {
+        Some(only) => *only,
+        None => None,
     }
-    found
 }
 
-/// The term that a hypothesis gives the variable.
-fn given_by(terms: &Terms, hyp: TermId, v: &VarKey) -> Option<TermId>
-    requires var { v.now.ty < length terms.now.types }
-    requires hyp { hyp < length terms.now.terms }
-    ensures given { given_by numbers (variable_of terms.now.types v.now)
-        (as_equation numbers (tm_at terms.now.terms hyp)) ≡ listed (option_map (tm_at terms.now.terms) result) }
-    ensures inside { IfSome result (λ t. t < length terms.now.terms) }
+/// What hypotheses give each variable: its term, or none for one that is given two.
+fn all_given(
+    alloc: Global,
+    terms: &Terms,
+    hyps: &[TermId],
+) -> Result<IndexMap<VarKey, Option<TermId>>, Memory>
+    requires { All (λ i. i < length terms.now.terms) hyps.now }
+    ensures { IfOk result (λ all. Keeps terms.now.types terms.now.terms hyps.now all.entries) }
+{
+    let mut all = IndexMap::new(alloc);
+    for hyp in hyps {
+        add_given(terms, *hyp, &mut all)?;
+    }
+    Ok(all)
+}
+
+/// Adds what a hypothesis gives a variable.
+fn add_given(
+    terms: &Terms,
+    hyp: TermId,
+    all: &mut IndexMap<VarKey, Option<TermId>>,
+) -> Result<(), Memory>
+    requires { hyp < length terms.now.terms }
+    ensures { OnOk result ((before : List ℕ) → Keeps terms.now.types terms.now.terms before all.old.entries
+        → Keeps terms.now.types terms.now.terms (before ++ hyp ∷ []) all.new.entries) }
+{
+    // Each type has one number.
+    let _types = terms.types();
+    let Some((v, t)) = given_by(terms, hyp) else {
+        return Ok(());
+    };
+    if all.insert(v, Some(t))?.is_none() {
+        return Ok(());
+    }
+    // Two terms are none.
+    all.insert(v, None)?;
+    Ok(())
+}
+
+/// The variable that a hypothesis gives a term, with the term.
+fn given_by(terms: &Terms, hyp: TermId) -> Option<(VarKey, TermId)>
+    requires { hyp < length terms.now.terms }
+    ensures given { option_map (λ p. (variable_of terms.now.types p.0, tm_at terms.now.terms p.1)) result
+        ≡ gives (as_equation numbers (tm_at terms.now.terms hyp)) }
+    ensures inside { IfSome result (λ p. (p.0.ty < length terms.now.types) × (p.1 < length terms.now.terms)) }
 {
     let Some(sides) = terms.as_eq(hyp) else {
         return None;
     };
-    if is_variable(terms, sides.0, v) {
-        Some(sides.1)
-    } else {
-        None
-    }
+    let Some(v) = as_variable(terms, sides.0) else {
+        return None;
+    };
+    Some((v, sides.1))
 }
 
-/// Whether the term is the variable.
-fn is_variable(terms: &Terms, t: TermId, v: &VarKey) -> bool
-    requires var { v.now.ty < length terms.now.types }
-    requires t { t < length terms.now.terms }
-    ensures { result ≡ same_tm numbers (tm_at terms.now.terms t) (Free (variable_of terms.now.types v.now)) }
+/// The variable that the term is.
+fn as_variable(terms: &Terms, t: TermId) -> Option<VarKey>
+    requires { t < length terms.now.terms }
+    ensures var { option_map (variable_of terms.now.types) result ≡ as_variable (tm_at terms.now.terms t) }
+    ensures inside { IfSome result (λ v. v.ty < length terms.now.types) }
 {
     match terms.node(t) {
-        TermNode::Var(w) => *w == *v,
-        _ => false,
+        TermNode::Var(v) => Some(*v),
+        _ => None,
     }
 }
 
