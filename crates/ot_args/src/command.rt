@@ -128,10 +128,8 @@ pub fn one_reading()
 fn read_behind<'a>(verb: Verb, words: &'a [String]) -> Result<Command<'a>, Usage>
     ensures { command_answer result ≡ option_and_then (command verb) (arguments (texts_of words.now)) }
 {
-    match Given::read(verb, words) {
-        Ok(given) => command_with(verb, given.settings, given.operands),
-        Err(usage) => Err(usage),
-    }
+    let given = Given::read(verb, words)?;
+    command_with(verb, given.settings, given.operands)
 }
 
 /// The command of what its options ask for and its operands.
