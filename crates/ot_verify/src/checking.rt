@@ -76,9 +76,6 @@ pub fn verify<S: Source>(
             return Ok(Verified { log });
         };
         let first = reader.last();
-        match take_record(alloc, &mut log, &mut reader, source, word, first) {
-            Ok(()) => (),
-            Err(fault) => return Err(fault),
-        }
+        take_record(alloc, &mut log, &mut reader, source, word, first)?;
     }
 }

@@ -1,10 +1,11 @@
-use Rattle.std.specs.Prelude.{Ok, Err}
-use Rattle.std.proofs.Common.{subst}
+use Rattle.std.specs.Prelude.{Result, Ok, Err}
+use Rattle.std.proofs.Common.{◌≡◌, ap, subst, arith}
 use Rattle.std.proofs.lemmas.Result.{err_from_is_err_and}
 use Rattle.ot_io.proofs.Keeping.{KeepsSource-then}
 use Rattle.ot_logic.specs.Naming.{names}
 use Rattle.ot_log_format.specs.Records.{form}
 use Rattle.ot_verify.specs.Logged.{RecordedFrom}
+use Rattle.ot_verify.specs.declared.fault.VerifyFault.TheVariants.{ReadFault}
 use Rattle.ot_verify.specs.Going.{BeginsFrom}
 use Rattle.ot_verify.proofs.Following.{none-checked, follows-header, header-refused, word-refused, follows-end}
 use Rattle.ot_verify.proofs.Following.{follows-record, record-refused}
@@ -35,16 +36,35 @@ returns-in_default-clause-checked g c =
     (g.S.Source.left c.begin.new.source))
     c.in_default.is c.in_ok-word.ensures.begins)
 
-pub returns-in-Err-clause-checked : goal.returns-in-Err-clause-checked
-returns-in-Err-clause-checked g c =
+pub returns-in_err-take_record-clause-checked : goal.returns-in_err-take_record-clause-checked
+returns-in_err-take_record-clause-checked g c =
+    let p = err_from_is_err_and c.from_residual-in_err-take_record.result
+    c.from_residual-in_err-take_record.ensures.1 in
     let l = g.S.Source.left c.records.source in
     let m = g.S.Source.left c.begin.new.source in
     let n = g.S.Source.left c.take_record.new.source in
-    record-refused c.records.invariant.so_far
+    rw (p.1, p.2)
+    (record-refused c.records.invariant.so_far
     (subst (λ o. BeginsFrom (Ok o) c.records.reader c.begin.new.self l m) c.in-Some.is c.in_ok-word.ensures.begins)
-    (subst (λ first. RecordedFrom (Err c.in-Err.fault) (form names c.in-Some.word) first c.records.log.state
-    c.take_record.new.log.state c.begin.new.self c.take_record.new.reader m n)
-    c.last-first.ensures c.in-Err.ensures.recorded)
+    (subst (λ first. RecordedFrom (Err c.in_err-take_record.field-0.0) (form names c.in-Some.word) first
+    c.records.log.state c.take_record.new.log.state c.begin.new.self c.take_record.new.reader m n)
+    c.last-first.ensures c.in_err-take_record.ensures.recorded))
+
+-- ---- a read fault is answered only where the source failed
+
+same-refusal : {A B E : Type 0} (e f : E) → ◌≡◌ {A = Result A E} (Err e) (Err f)
+    → ◌≡◌ {A = Result B E} (Err e) (Err f)
+same-refusal {A} {B} {E} e f h = ap (λ r. elim r as (λ _. Result B E) [ Ok x ↦ Err e | Err y ↦ Err y ]) h
+
+pub returns-in_err-take_record-clause-cause : goal.returns-in_err-take_record-clause-cause
+returns-in_err-take_record-clause-cause g c =
+    let p = err_from_is_err_and c.from_residual-in_err-take_record.result
+    c.from_residual-in_err-take_record.ensures.1 in
+    rw (p.1, p.2)
+    (λ is.
+    let rose = c.in_err-take_record.ensures.reads.cause
+    (same-refusal c.in_err-take_record.field-0.0 ReadFault is) in
+    omega (arith, rose, c.records.invariant.kept.later, c.begin.ensures.kept.later))
 
 -- ---- the loop
 
@@ -66,7 +86,7 @@ records-preserved g c =
           c.in_ok-word.ensures.begins)
           (subst (λ first. RecordedFrom (Ok (tt {0})) (form names c.in-Some.word) first c.records.log.state
           c.take_record.new.log.state c.begin.new.self c.take_record.new.reader m n)
-          c.last-first.ensures c.in-Ok.ensures.recorded);
+          c.last-first.ensures c.in_ok-take_record.ensures.recorded);
       kept = KeepsSource-then c.records.invariant.kept
           (KeepsSource-then c.begin.ensures.kept c.take_record.ensures.reads.kept);
     }
