@@ -1,5 +1,5 @@
 -- Hypotheses that are kept once.
-use Rattle.std.specs.Prelude.{◌≡◌, ◌+◌, ◌-◌, ◌||◌, not}
+use Rattle.std.specs.Prelude.{◌≡◌, ◌||◌, not}
 use Rattle.std.specs.Prelude.{Bool, true, false, cond, List, [], ◌∷◌, ◌++◌, map, filter}
 use Rattle.std.proofs.Common.{refl, sym, ◌∙◌, ap}
 use Rattle.ot_logic.specs.Names.{Name}

@@ -12,7 +12,7 @@ use Rattle.ot_laws.proofs.Tests.{tells_names}
 use Rattle.ot_laws.proofs.Typing.{result_ty-fun}
 use Rattle.ot_forms.specs.declared.fault.TextFault.TheVariants.{BadTypes, UnknownOperator}
 use Rattle.ot_forms.specs.Meaning.{Around, types_around, constant_of, is_typed}
-use Rattle.ot_forms.specs.Meaning.{whole, relation_ty, equated, are_alike}
+use Rattle.ot_forms.specs.Meaning.{relation_ty, equated, are_alike}
 use Rattle.ot_parse.specs.declared.values.Value.{Value}
 use Rattle.ot_parse.specs.declared.values.Meant.{Meant as Part}
 use Rattle.ot_parse.specs.declared.values.Meant.TheVariants as parts

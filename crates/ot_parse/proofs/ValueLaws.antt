@@ -11,11 +11,10 @@ use Rattle.ot_logic.specs.Answers.{◌>>=◌}
 use Rattle.ot_logic.specs.Names.{Name}
 use Rattle.ot_logic.specs.Naming.{names}
 use Rattle.ot_logic.specs.Trees.{Ty, TyOp, Tm}
-use Rattle.ot_logic.specs.Trees.{Con, Symbol, ConSymbol, OpSymbol}
+use Rattle.ot_logic.specs.Trees.{Symbol, ConSymbol, OpSymbol}
 use Rattle.ot_logic.specs.Hol.{fun_ty, bool_ty, same_ty, type_in, applied, result_ty, depth_ty}
 use Rattle.ot_logic.specs.Hol.{depth_all}
 use Rattle.ot_logic.specs.declared.tree.Ty as types
-use Rattle.ot_logic.specs.declared.tree.Tm as terms
 use Rattle.ot_laws.proofs.Tests.{tells_names, same_ty-is}
 use Rattle.ot_laws.proofs.Typing.{result_ty-fun}
 use Rattle.ot_forms.specs.declared.fault.TextFault.TheVariants.{BadTypes, TooDeep}

@@ -4,7 +4,7 @@ use Rattle.std.specs.Prelude.{slice_get, Option, Some, None, Result, Ok, Err}
 use Rattle.ot_logic.specs.Names.{Name}
 use Rattle.ot_logic.specs.Naming.{names}
 use Rattle.ot_logic.specs.Trees.{Ty, Tm, App}
-use Rattle.ot_logic.specs.Hol.{bool_ty, type_in, depth_ty, depth_tm, depth_limit, has_shallow_types}
+use Rattle.ot_logic.specs.Hol.{bool_ty, type_in, depth_tm, depth_limit, has_shallow_types}
 use Rattle.ot_logic.specs.declared.memory.Memory.{Memory}
 use Rattle.ot_forms.specs.Meaning.{Around, types_around, is_typed}
 use Rattle.ot_parse.specs.declared.values.Value.{Value}
@@ -21,7 +21,6 @@ deeper a b = min (suc (max a b)) (suc depth_limit)
 pub record IsValue (l : Around) (v : Value) : Type 0 where
   pub typed : type_in names (types_around l) (term_of_tree v.term) ≡ Some (type_of_tree v.ty)
   pub depth : v.depth ≡ min (depth_tm names (term_of_tree v.term)) (suc depth_limit)
-  pub type_depth : v.type_depth ≡ min (depth_ty names (type_of_tree v.ty)) (suc depth_limit)
   pub shallow : v.has_shallow_types ≡ has_shallow_types names (types_around l) (term_of_tree v.term)
 
 -- the abstraction of this number is over a variable of this type

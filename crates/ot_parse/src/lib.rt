@@ -3,6 +3,7 @@
 
 mod bases;
 mod halt;
+mod measured;
 mod names;
 mod notation;
 mod parts;

@@ -21,6 +21,7 @@ ghost use Rattle.ot_parse.specs.TermCode.{IsTermFront, IsFront, IsBack, ClosesTe
 ghost use Rattle.ot_parse.specs.TermCode.{OpensWithin, EndsWithin, BeginsWithin};
 
 use crate::halt::Halt;
+use crate::measured::MeasuredType;
 use crate::notation::Notation;
 use crate::parts::{part, signs};
 use crate::spelling::{bare, literal, variable_word};
@@ -48,7 +49,7 @@ pub(crate) enum Open<'a> {
     /// It is an argument of this function: the places of the parenthesis and of the term.
     Argument(u64, u64, Meant),
     /// It is the body of an abstraction: its place, and the variable's name and type.
-    Body(u64, &'a [u8], Ty),
+    Body(u64, &'a [u8], MeasuredType),
 }
 
 /// What the front of a text is.
@@ -190,28 +191,23 @@ fn front_of<'a>(
                 }
                 return constant_front(alloc, notation, room - 1, after);
             }
-            place_front(alloc, total, frames, text)
+            place_front(total, frames, text)
         }
     }
 }
 
 /// A bound place.
-fn place_front<'a>(
-    alloc: Global,
-    total: usize,
-    frames: &[Open<'a>],
-    text: &'a [u8],
-) -> Result<Front<'a>, Halt<'a>>
+fn place_front<'a>(total: usize, frames: &[Open<'a>], text: &'a [u8]) -> Result<Front<'a>, Halt<'a>>
     ensures { let l = around (frames_of frames.now) in IsLeaf l
         (mapped (bound_of l (place_at total text.now)) (part_at text.now)) result }
 {
     let (name, rest) = part(text)?;
-    let bound = bound_part(alloc, frames, place_of(total, text), name)?;
+    let bound = bound_part(frames, place_of(total, text), name)?;
     Ok(Front::Leaf(bound, rest))
 }
 
 /// The term of the innermost abstraction with this name, at this place.
-fn bound_part(alloc: Global, frames: &[Open<'_>], at: u64, name: &[u8]) -> Result<Meant, Memory>
+fn bound_part(frames: &[Open<'_>], at: u64, name: &[u8]) -> Result<Meant, Memory>
     ensures { let l = around (frames_of frames.now) in IsMade l (bound_of l at name.now) result }
 {
     let mut number = 0;
@@ -222,7 +218,7 @@ fn bound_part(alloc: Global, frames: &[Open<'_>], at: u64, name: &[u8]) -> Resul
             None => continue 'frames,
             Some((variable, ty)) => {
                 if is_same(variable, name) {
-                    return Ok(Meant::Value(bound_value(alloc, number, ty)?));
+                    return Ok(Meant::Value(bound_value(number, ty)?));
                 }
                 number += 1;
             }
@@ -232,7 +228,7 @@ fn bound_part(alloc: Global, frames: &[Open<'_>], at: u64, name: &[u8]) -> Resul
 }
 
 /// The variable of an abstraction, where that is open.
-fn variable_of<'a>(inside: &'a Open<'_>) -> Option<(&'a [u8], &'a Ty)>
+fn variable_of<'a>(inside: &'a Open<'_>) -> Option<(&'a [u8], &'a MeasuredType)>
     ensures none { IfNone result ((l : Around) → inner_of (frame_of inside.now) l ≡ l) }
     ensures some { IfSome result (λ v. (l : Around) → inner_of (frame_of inside.now) l
         ≡ (v.0.now, type_of_tree v.1.now) ∷ l) }
@@ -343,14 +339,14 @@ fn binder<'a>(
     notation: &Notation,
     room: usize,
     text: &'a [u8],
-) -> Result<(&'a [u8], Ty, &'a [u8]), Halt<'a>>
+) -> Result<(&'a [u8], MeasuredType, &'a [u8]), Halt<'a>>
     ensures { IsReadAs (λ x. (x.0.now, type_of_tree x.1)) (λ x. x.2.now) result (binder_at notation.now room text.now) }
 {
     let (name, end) = part(text)?;
     let rest = literal(end, b" : ")?;
     let (ty, behind) = read_type(alloc, notation, room, rest)?;
     let body = literal(behind, b" . ")?;
-    Ok((name, ty, body))
+    Ok((name, MeasuredType::new(alloc, ty)?, body))
 }
 
 /// A free variable whose name is quoted.
@@ -422,7 +418,7 @@ fn named<'a>(
         return free_front(alloc, notation, room, name, rest);
     }
     let place = place_of(total, text);
-    let bound = bound_part(alloc, frames, place, first_of(&name))?;
+    let bound = bound_part(frames, place, first_of(&name))?;
     Ok(Front::Head(Open::First(at, place), bound, end))
 }
 
@@ -673,7 +669,7 @@ fn back_of_body<'a>(
     alloc: Global,
     place: u64,
     _name: &'a [u8],
-    ty: Ty,
+    ty: MeasuredType,
     part: Meant,
     text: &'a [u8],
 ) -> Result<Back<'a>, Halt<'a>>

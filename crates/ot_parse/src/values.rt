@@ -1,20 +1,20 @@
 //! Nameless terms in the making, with their types, and what is wrong with a part that has none.
-ghost use Rattle.std.specs.Prelude.{◌≡◌, ◌≤◌, ℕ, suc, min, List, ◌∷◌, Some, IfOk, Ok};
-ghost use Rattle.std.specs.Option.{option_map};
+ghost use Rattle.std.specs.Prelude.{◌≡◌, ℕ, List, ◌∷◌, Some, IfOk, Ok};
 ghost use Rattle.ot_logic.specs.Naming.{names};
 ghost use Rattle.ot_logic.specs.Names.{Name as NameValue};
 ghost use Rattle.ot_logic.specs.Trees.{Ty as TypeTree, Free as FreeTree, Con as ConTree};
 ghost use Rattle.ot_logic.specs.Trees.{Bound as BoundTree, App as AppTree, Abs as AbsTree};
-ghost use Rattle.ot_logic.specs.Hol.{bool_ty, fun_ty, result_ty, depth_ty, depth_limit};
+ghost use Rattle.ot_logic.specs.Hol.{bool_ty, fun_ty, result_ty};
 ghost use Rattle.ot_forms.specs.Meaning.{Around, fits as fits_test};
 ghost use Rattle.ot_logic.specs.PlainTrees.{type_of_tree, term_of_tree};
 ghost use Rattle.ot_parse.specs.Meant.{equal_of, infix_of, apply_of};
 ghost use Rattle.ot_parse.specs.Meant.{abstracted as abstracted_value, relation_of, related_at};
-ghost use Rattle.ot_parse.specs.Values.{IsValue, IsBoundTo, IsMeant, meant_of, deeper};
+ghost use Rattle.ot_parse.specs.Values.{IsValue, IsBoundTo, IsMeant, meant_of};
 ghost use Rattle.ot_parse.specs.Values.{IsProposition, IsWholly, IsApplied, IsAppliedAs, IsMade, IsRelated};
 
+use crate::measured::{MeasuredType, copy_type, one_deeper};
 use crate::notation::{Notation, WordKind};
-use crate::trees::{is_arrow, is_bool, same_type};
+use crate::trees::is_bool;
 use crate::types::function_type;
 use ot_forms::TextFault;
 use ot_logic::{DEPTH_LIMIT, Memory, Name, Tm, Ty};
@@ -24,11 +24,9 @@ use std::alloc::{AllocError, Global};
 #[derive(Drop)]
 pub(crate) struct Value {
     term: Tm,
-    ty: Ty,
+    ty: MeasuredType,
     /// The depth of the term, or one past the nesting limit.
     depth: u64,
-    /// The depth of its type, or one past the nesting limit.
-    type_depth: u64,
     /// Whether the types of all its parts are within the nesting limit.
     has_shallow_types: bool,
 }
@@ -49,7 +47,6 @@ impl Value {
             term,
             ty: _,
             depth: _,
-            type_depth: _,
             has_shallow_types: _,
         } = self;
         term
@@ -68,14 +65,13 @@ pub(crate) fn free_value(alloc: Global, name: Name, ty: Ty) -> Result<Value, All
     ensures kept { IfOk result (λ v. (l : Around) → IsValue l v) }
     ensures term { IfOk result (λ v. term_of_tree v.term ≡ FreeTree (record { name = name; ty = type_of_tree ty })) }
 {
-    let copy = copy_type(alloc, &ty)?;
-    let type_depth = type_depth(&ty, DEPTH_LIMIT as u64);
+    let measured = MeasuredType::new(alloc, copy_type(alloc, &ty)?)?;
+    let is_shallow = measured.is_shallow();
     Ok(Value {
         term: Tm::Free(name, ty),
-        ty: copy,
+        ty: measured,
         depth: 1,
-        type_depth,
-        has_shallow_types: type_depth <= DEPTH_LIMIT as u64,
+        has_shallow_types: is_shallow,
     })
 }
 
@@ -84,70 +80,27 @@ pub(crate) fn constant_value(alloc: Global, name: Name, ty: Ty) -> Result<Value,
     ensures kept { IfOk result (λ v. (l : Around) → IsValue l v) }
     ensures term { IfOk result (λ v. term_of_tree v.term ≡ ConTree name (type_of_tree ty)) }
 {
-    let copy = copy_type(alloc, &ty)?;
-    let type_depth = type_depth(&ty, DEPTH_LIMIT as u64);
+    let measured = MeasuredType::new(alloc, copy_type(alloc, &ty)?)?;
+    let is_shallow = measured.is_shallow();
     Ok(Value {
         term: Tm::Con(name, ty),
-        ty: copy,
+        ty: measured,
         depth: 1,
-        type_depth,
-        has_shallow_types: type_depth <= DEPTH_LIMIT as u64,
+        has_shallow_types: is_shallow,
     })
 }
 
 /// A bound place of this type.
-pub(crate) fn bound_value(alloc: Global, place: u64, ty: &Ty) -> Result<Value, AllocError>
+pub(crate) fn bound_value(place: u64, ty: &MeasuredType) -> Result<Value, AllocError>
     ensures kept { IfOk result (λ v. (l : Around) → IsBoundTo l place (type_of_tree ty.now) → IsValue l v) }
     ensures term { IfOk result (λ v. term_of_tree v.term ≡ BoundTree place) }
 {
-    let type_depth = type_depth(ty, DEPTH_LIMIT as u64);
     Ok(Value {
         term: Tm::Bound(place),
-        ty: copy_type(alloc, ty)?,
+        ty: ty.share()?,
         depth: 1,
-        type_depth,
-        has_shallow_types: type_depth <= DEPTH_LIMIT as u64,
+        has_shallow_types: ty.is_shallow(),
     })
-}
-
-/// A type equal to this one.
-pub(crate) fn copy_type(alloc: Global, ty: &Ty) -> Result<Ty, AllocError>
-    ensures { IfOk result (λ copy. type_of_tree copy ≡ type_of_tree ty.now) }
-{
-    match ty {
-        Ty::Var(name) => Ok(Ty::Var(name.copy(alloc)?)),
-        Ty::Op(name, args) => {
-            let mut copies = Vec::new(alloc);
-            for arg in args {
-                copies.push(copy_type(alloc, arg)?)?;
-            }
-            Ok(Ty::Op(name.copy(alloc)?, copies))
-        }
-    }
-}
-
-/// The depth of a type, or one past this limit.
-#[tactic(auto, using(ot_logic::proofs::PlainTrees::type_steps))]
-fn type_depth(ty: &Ty, limit: u64) -> u64
-    requires { limit ≤ depth_limit }
-    ensures { result ≡ min (depth_ty names (type_of_tree ty.now)) (suc limit) }
-{
-    match ty {
-        Ty::Var(_) => 1,
-        Ty::Op(_, args) => {
-            if limit == 0 {
-                return 1;
-            }
-            let mut deepest = 0;
-            for arg in args {
-                let depth = type_depth(arg, limit - 1);
-                if deepest < depth {
-                    deepest = depth;
-                }
-            }
-            deepest + 1
-        }
-    }
 }
 
 /// What a whole part stands for that begins at this place: a proposition, where one is wanted, within the nesting
@@ -164,38 +117,13 @@ pub(crate) fn whole(wanted: bool, at: u64, part: Meant) -> Meant
 fn whole_value(wanted: bool, at: u64, value: Value) -> Meant
     ensures { (l : Around) → IsValue l value → IsWholly l wanted at (Ok (term_of_tree value.term)) result }
 {
-    if wanted && !is_bool(&value.ty) {
+    if wanted && !is_bool(value.ty.as_type()) {
         return Meant::Wrong(at, TextFault::BadTypes);
     }
     if !value.fits() {
         return Meant::Wrong(at, TextFault::TooDeep);
     }
     Meant::Value(value)
-}
-
-/// The depth of what stands over two parts, or one past the nesting limit.
-fn one_deeper(left: u64, right: u64) -> u64
-    ensures { result ≡ deeper left right }
-{
-    let limit = DEPTH_LIMIT as u64;
-    let most = left.max(right);
-    if most <= limit { most + 1 } else { limit + 1 }
-}
-
-/// What a function of the first type gives at an argument of the second.
-fn result_type(function: Ty, argument: &Ty) -> Option<Ty>
-    ensures { option_map type_of_tree result ≡ result_ty names (type_of_tree function) (type_of_tree argument.now) }
-{
-    match function {
-        Ty::Var(_) => None,
-        Ty::Op(name, args) => {
-            let mut args = args;
-            if !is_arrow(&name, &args) || !same_type(&args[0], argument) {
-                return None;
-            }
-            args.pop()
-        }
-    }
 }
 
 /// An application, where it fits.
@@ -205,17 +133,16 @@ fn applied(alloc: Global, function: Value, argument: Value) -> Result<Option<Val
 {
     let depth = one_deeper(function.depth, argument.depth);
     let are_shallow = function.has_shallow_types && argument.has_shallow_types;
-    match result_type(function.ty, &argument.ty) {
+    match function.ty.into_result(alloc, argument.ty.as_type())? {
         None => Ok(None),
         Some(ty) => {
             let term = applied_term(alloc, function.term, argument.term)?;
-            let type_depth = type_depth(&ty, DEPTH_LIMIT as u64);
+            let is_shallow = ty.is_shallow();
             Ok(Some(Value {
                 term,
                 ty,
                 depth,
-                type_depth,
-                has_shallow_types: type_depth <= DEPTH_LIMIT as u64 && are_shallow,
+                has_shallow_types: is_shallow && are_shallow,
             }))
         }
     }
@@ -230,13 +157,13 @@ fn applied_as(alloc: Global, function: Value, argument: Value, ty: Ty) -> Result
     let depth = one_deeper(function.depth, argument.depth);
     let are_shallow = function.has_shallow_types && argument.has_shallow_types;
     let term = applied_term(alloc, function.term, argument.term)?;
-    let type_depth = type_depth(&ty, DEPTH_LIMIT as u64);
+    let ty = MeasuredType::new(alloc, ty)?;
+    let is_shallow = ty.is_shallow();
     Ok(Value {
         term,
         ty,
         depth,
-        type_depth,
-        has_shallow_types: type_depth <= DEPTH_LIMIT as u64 && are_shallow,
+        has_shallow_types: is_shallow && are_shallow,
     })
 }
 
@@ -312,7 +239,7 @@ fn equated(alloc: Global, at: u64, left: Value, right: Value) -> Result<Meant, M
     ensures { (l : Around) → IsValue l left → IsValue l right
         → IsMade l (equal_of l at (Ok (term_of_tree left.term)) (Ok (term_of_tree right.term))) result }
 {
-    let equality = equality(alloc, &left.ty)?;
+    let equality = equality(alloc, left.ty.as_type())?;
     match related(alloc, equality, left, right)? {
         Some(value) => Ok(Meant::Value(value)),
         None => Ok(Meant::Wrong(at, TextFault::BadTypes)),
@@ -407,7 +334,7 @@ fn connective(alloc: Global, name: &Name) -> Result<Value, AllocError>
 }
 
 /// An abstraction over a variable of this type.
-pub(crate) fn abstraction(alloc: Global, ty: Ty, body: Meant) -> Result<Meant, Memory>
+pub(crate) fn abstraction(alloc: Global, ty: MeasuredType, body: Meant) -> Result<Meant, Memory>
     ensures { (l : Around) (x : List ℕ) → IsMeant ((x, type_of_tree ty) ∷ l) body
         → IsMade l (abstracted_value (type_of_tree ty) (meant_of body)) result }
 {
@@ -417,19 +344,18 @@ pub(crate) fn abstraction(alloc: Global, ty: Ty, body: Meant) -> Result<Meant, M
     }
 }
 
-fn abstracted(alloc: Global, ty: Ty, body: Value) -> Result<Meant, Memory>
+fn abstracted(alloc: Global, ty: MeasuredType, body: Value) -> Result<Meant, Memory>
     ensures { (l : Around) (x : List ℕ) → IsValue ((x, type_of_tree ty) ∷ l) body
         → IsMade l (Ok (AbsTree (type_of_tree ty) (term_of_tree body.term))) result }
 {
-    let type_depth = one_deeper(type_depth(&ty, DEPTH_LIMIT as u64), body.type_depth);
-    let whole = function_type(alloc, copy_type(alloc, &ty)?, body.ty)?;
-    let term = abstracted_term(alloc, ty, body.term)?;
+    let whole = MeasuredType::function(alloc, &ty, body.ty)?;
+    let term = abstracted_term(alloc, ty.into_type(alloc)?, body.term)?;
+    let is_shallow = whole.is_shallow();
     Ok(Meant::Value(Value {
         term,
         ty: whole,
         depth: one_deeper(body.depth, body.depth),
-        type_depth,
-        has_shallow_types: type_depth <= DEPTH_LIMIT as u64 && body.has_shallow_types,
+        has_shallow_types: is_shallow && body.has_shallow_types,
     }))
 }
 

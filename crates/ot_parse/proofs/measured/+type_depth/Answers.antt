@@ -5,8 +5,8 @@ use Rattle.ot_logic.specs.Trees.{TyOp}
 use Rattle.ot_logic.specs.PlainTrees.{type_of_tree, tys_of}
 use Rattle.ot_logic.proofs.PlainTrees.{type_Op}
 use Rattle.ot_parse.proofs.ValueLaws.{depth-more, depth-whole}
-use Rattle.ot_parse.proofs.values.+type_depth.Goals as goal
-use Rattle.ot_parse.proofs.values.+type_depth.Goals.{then-deepest-depth, else-deepest-depth}
+use Rattle.ot_parse.proofs.measured.+type_depth.Goals as goal
+use Rattle.ot_parse.proofs.measured.+type_depth.Goals.{then-deepest-depth, else-deepest-depth}
 
 pub loop-arg-preserved : goal.loop-arg-preserved
 loop-arg-preserved t c =

@@ -3,7 +3,7 @@ use Rattle.ot_logic.specs.Trees.{TyOp}
 use Rattle.ot_logic.specs.PlainTrees.{type_of_tree, tys_of}
 use Rattle.ot_logic.proofs.PlainTrees.{type_Op}
 use Rattle.ot_logic.proofs.Copying.{copied-all, copy-more}
-use Rattle.ot_parse.proofs.values.+copy_type.Goals as goal
+use Rattle.ot_parse.proofs.measured.+copy_type.Goals as goal
 
 pub loop-arg-preserved : goal.loop-arg-preserved
 loop-arg-preserved t c =
