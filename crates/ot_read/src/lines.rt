@@ -2,13 +2,15 @@
 ghost use Rattle.std.specs.Prelude.{◌≡◌, Ok, map, IfOk, IfErr};
 ghost use Rattle.ot_parse.specs.Plain.{sequent_of};
 ghost use Rattle.ot_theory.specs.Lines.{lines_of};
+ghost use Rattle.ot_logic.specs.RanOut.{ran_out};
+ghost use Rattle.ot_read.specs.declared.lines.LineRefusal.TheVariants.{Memory as OutOfMemory};
 ghost use Rattle.ot_read.specs.Lines.{line_read, at_line, lines_read, IsLineRefusal};
 
 use crate::laws::as_the_forms_say;
 use ot_logic::Memory;
 use ot_parse::{Notation, ReadRefusal, Readable, TextFault, read_sequent};
 use ot_theory::next_line;
-use std::alloc::Global;
+use std::alloc::{AllocFailed, Global};
 
 /// Why the lines of a text aren't read.
 #[derive(Clone, Copy)]
@@ -21,6 +23,14 @@ pub enum LineRefusal {
     },
     /// Memory ran out.
     Memory(Memory),
+}
+
+impl<T: Drop> From<AllocFailed<T>> for LineRefusal {
+    ghost from_gives = { λ _ f. f ≡ OutOfMemory ran_out };
+
+    fn from(refused: AllocFailed<T>) -> LineRefusal {
+        LineRefusal::Memory(Memory::from(refused))
+    }
 }
 
 /// The sequents that the lines of a text stand for under this notation, in order. Lines end at a line feed, are
@@ -39,9 +49,7 @@ pub fn read_lines(
     let mut number = 0;
     'lines: while let Some(line) = next_line(text, &mut at, &mut number) {
         let sequent = line_at(alloc, notation, line.number, line.text)?;
-        if let Err(refused) = read.push(sequent) {
-            return Err(LineRefusal::Memory(Memory::from(refused)));
-        }
+        read.push(sequent)?;
     }
     Ok(read)
 }
