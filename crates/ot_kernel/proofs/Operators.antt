@@ -1,6 +1,6 @@
 -- A type operator that is defined from a theorem.
 use Rattle.std.specs.Prelude.{◌≡◌, ℕ, ◌<◌, ◌≤◌, suc, Bool, true, List, [], ◌∷◌, ◌++◌}
-use Rattle.std.specs.Prelude.{map, length, slice_get, Some, Result, Ok, Err, IfOk, IfErr}
+use Rattle.std.specs.Prelude.{map, length, slice_get, Some, Result, Ok, Err, IfOk, IfErr, OnOk}
 use Rattle.std.specs.List.{All, list_all}
 use Rattle.std.proofs.Common.{refl, sym, ap, ◌∙◌, subst, arith, ◌+◌, length-append, slice_index_or}
 use Rattle.std.proofs.Math.Seq.{get_or-append_seam}
@@ -262,6 +262,13 @@ none_further (Ok ids) k mid new d qs none h = (
       (append-nil (theorems names d)),
 )
 none_further (Err e) k mid new d qs none h = h
+
+-- the numbers of the two are below how many theorems there are
+pub operator_within : (r : Result (ℕ × ℕ) RuleFault) (P : ℕ × ℕ → Type 0) (k n m : ℕ)
+    → IfOk r (λ ids. (ids.0 ≡ k) × (ids.1 ≡ suc k) × P ids) → OnOk r (n ≡ k + 2 + m)
+    → IfOk r (λ ids. (ids.0 < n) × (ids.1 < n))
+operator_within (Ok ids) P k n m h count = (omega (arith, h.0, count), omega (arith, h.1, count))
+operator_within (Err e) P k n m h count = h
 
 -- ---- the whole call
 -- the premise, over numbers

@@ -1,6 +1,6 @@
 //! Type operators with the theorems that articles of version 5 have: with variables in the place
 //! of binders.
-ghost use Rattle.std.specs.Prelude.{◌≡◌, ◌<◌, true, map, length, ◌∷◌, IfErr};
+ghost use Rattle.std.specs.Prelude.{◌≡◌, ◌<◌, true, map, length, ◌∷◌, IfOk, IfErr};
 ghost use Rattle.std.specs.List.{All, list_all};
 ghost use Rattle.ot_logic.specs.Trees.{TyOp, Free, App};
 ghost use Rattle.ot_logic.specs.Hol.{fun_ty, bool_ty, HasType, IsClosed, equation, sequent_of as stated};
@@ -65,6 +65,9 @@ impl Kernel {
             (open_type_definition name_alphabet var_r self.old.definitions (name_at self.old name)
             (name_at self.old abs) (name_at self.old rep) (map (name_at self.old) vars.now) (theorem_at self.old th))
             self.old self.new }
+        ensures within { IfOk result (λ ids. (ids.abs_th < length self.new.theorems)
+            × (ids.rep_th < length self.new.theorems) × (ids.abs_open < length self.new.theorems)
+            × (ids.rep_open < length self.new.theorems)) }
         ensures symbols { IfErr result (IsSymbolIn (length self.new.names)) }
         ensures keeps { Keeps self.old self.new }
     {

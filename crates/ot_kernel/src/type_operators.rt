@@ -1,5 +1,5 @@
 //! Type operators: types that are taken from the elements of others.
-ghost use Rattle.std.specs.Prelude.{◌≡◌, ◌<◌, suc, ◌∷◌, ◌++◌, [], map, length, Ok, IfOk, IfErr, OnOk};
+ghost use Rattle.std.specs.Prelude.{◌≡◌, ◌<◌, ◌+◌, suc, ◌∷◌, ◌++◌, [], map, length, Ok, IfOk, IfErr, OnOk};
 ghost use Rattle.std.specs.List.{All};
 ghost use Rattle.ot_logic.specs.Trees.{TyDef};
 ghost use Rattle.ot_logic.specs.Hol.{theorems, theorems_at, IsNext};
@@ -49,6 +49,8 @@ impl Kernel {
         ensures defines { DefinesType result
             (type_definition name_alphabet self.old.definitions (name_at self.old name) (name_at self.old abs)
             (name_at self.old rep) (map (name_at self.old) vars.now) (theorem_at self.old th)) self.old self.new }
+        ensures within { IfOk result
+            (λ ids. (ids.0 < length self.new.theorems) × (ids.1 < length self.new.theorems)) }
         ensures symbols { IfErr result (IsSymbolIn (length self.new.names)) }
         ensures keeps { Keeps self.old self.new }
     {
@@ -137,6 +139,7 @@ impl Kernel {
             (TyDef (name_at self.old name) (name_at self.old abs) (name_at self.old rep)
             (map (name_at self.old) vars.now) (theorem_at self.old premise))
             (map (sequent_of self.old.terms) further.items))) }
+        ensures count { OnOk result (length self.new.theorems ≡ length self.old.theorems + 2 + length further.items) }
         ensures err { IfErr result (λ e. (self.new ≡ self.old) × (e ≡ RuleFault.Memory ran_out)) }
     {
         let abs_th = ThmId(self.theorems.len());

@@ -1,4 +1,4 @@
-use Rattle.std.proofs.Common.{◌≡◌, ℕ, ◌<◌, [], ◌∷◌, ◌++◌, List, map, length, sym, ap, subst, ◌∙◌, ◌+◌, arith}
+use Rattle.std.proofs.Common.{◌≡◌, ℕ, ◌<◌, [], ◌∷◌, ◌++◌, List, map, length, sym, ap, subst, ◌∙◌, ◌+◌, arith, length-append}
 use Rattle.std.specs.List.{All}
 use Rattle.std.proofs.lemmas.List.{length-map}
 use Rattle.ot_logic.specs.Trees.{Symbol, ConSymbol, OpSymbol, TyDef}
@@ -97,4 +97,17 @@ returns-clause-ok c =
       omega (arith, k.1),
       c.in_ok-accept.ensures.ok
           ∙ ap (λ (ths : List Theorem). accepting c.args.self.now ths (definition d)) (added d) ∙ made,
+    )
+
+pub returns-clause-count : goal.returns-clause-count
+returns-clause-count c =
+    let d = (goal.at.returns-clause-count c).After-as_slice in
+    let s = c.args.self.now in
+    let more = map (sequent_of s.terms) c.append.new.self.items in
+    omega (
+      arith,
+      ap (λ (t : State). length t.theorems) c.in_ok-accept.ensures.ok,
+      length-append s.theorems more,
+      length-map c.append.new.self.items (sequent_of s.terms),
+      ap length (added d),
     )

@@ -1,4 +1,4 @@
-use Rattle.std.proofs.Common.{List, [], ◌∷◌, ◌++◌, map, length, sym, ap, subst, arith}
+use Rattle.std.proofs.Common.{◌≡◌, List, [], ◌∷◌, ◌++◌, map, length, sym, ap, subst, arith}
 use Rattle.std.specs.List.{All}
 use Rattle.std.proofs.lemmas.Result.{err_from_is_err_and}
 use Rattle.std.proofs.lemmas.List.Elements.{All-nil}
@@ -12,7 +12,9 @@ use Rattle.ot_kernel.specs.State.{State, name_at}
 use Rattle.ot_kernel.proofs.Later.{Later, later_to, unchanged, held_of}
 use Rattle.ot_kernel.proofs.Checked.{names_no_symbol}
 use Rattle.ot_kernel.proofs.Operators.{AreNames, operator_at, names-bound, premise_is, next_mid}
-use Rattle.ot_kernel.proofs.Operators.{both_are, both_refused, both_made, none_further, operator_defines}
+use Rattle.ot_kernel.proofs.Operators.{both_are, both_refused, both_made, none_further, operator_within}
+use Rattle.ot_kernel.proofs.Operators.{operator_defines}
+use Rattle.ot_kernel.specs.Accepting.{defining_more}
 use Rattle.ot_kernel.proofs.kernel.Kernel.define_type.Goals as goal
 use Rattle.ot_kernel.proofs.kernel.Kernel.define_type.Goals.{After-operator_theorems}
 
@@ -117,3 +119,12 @@ returns-clause-keeps c =
     (operator_defines (later d) c.args.name c.args.abs c.args.rep c.args.vars.now c.args.th c.concl-concl.result
     (named d) c.requires.th c.concl-concl.ensures.inside c.concl-concl.ensures.concl c.accept_operator.result
     c.accept_operator.new.self made plain c.accept_operator.ensures.err).1
+
+pub returns-clause-within : goal.returns-clause-within
+returns-clause-within c =
+    let d = (goal.at.returns-clause-within c).After-operator_theorems in
+    let e = operator_at (mid d) c.args.name c.args.abs c.args.rep c.args.vars.now c.args.th in
+    operator_within c.accept_operator.result (λ _. c.accept_operator.new.self
+    ≡ defining_more (mid d) e (map (sequent_of (mid d).terms) c.new-further.result.items)) (length (mid d).theorems)
+    (length c.accept_operator.new.self.theorems) (length c.new-further.result.items) c.accept_operator.ensures.ok
+    c.accept_operator.ensures.count

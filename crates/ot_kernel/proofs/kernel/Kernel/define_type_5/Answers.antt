@@ -299,6 +299,24 @@ returns-clause-keeps c =
     (λ j. record { abs_th = ok.0 j; rep_th = ok.1 j; abs_open = third j; rep_open = fourth j }) in
     done.1
 
+pub returns-clause-within : goal.returns-clause-within
+returns-clause-within c =
+    let d = (goal.at.returns-clause-within c).After-operator_open in
+    let e = ap (λ (s : State). length s.theorems) c.self.view_is in
+    let n = length-map c.self.inside.theorems.items
+    (sequent_of (state_of c.self.inside.names c.self.inside.terms (held_of c.self.inside)).terms) in
+    let kept = ap length (later_open d).same.theorems in
+    let ok = c.in_ok-numbers.ensures.ok in
+    let all = c.in_ok-numbers.ensures.count in
+    let two = ap length c.in_ok-further.ensures in
+    let count : c.len-count.result ≡ length (mid d).theorems =
+    omega (arith, e, n, kept, c.len-count.ensures, c.self.inside.theorems.ok.0) in (
+      omega (arith, ok.0, all),
+      omega (arith, ok.1, all, two),
+      omega (arith, count, all, two),
+      omega (arith, count, all, two),
+    )
+
 -- ---- the kernel at each exit, and at the last call
 pub invariant_of-self : goal.invariant_of-self
 invariant_of-self c = (later (goal.at.invariant_of-self c).After-operator_theorems).kernel
