@@ -18,7 +18,8 @@ use Rattle.ot_args.specs.Grammar.{option_name, option_words, flag_named, flag_or
 use Rattle.ot_args.specs.Grammar.{are_options, settings_of, packages_of, names_any, shown, is_input, is_plain}
 use Rattle.ot_args.specs.Grammar.{is_theory, count_of, arguments, argument_words, sample, command, command_on}
 use Rattle.ot_args.specs.Grammar.{command_on_two, command_with, command_of, verb_word, verb_named, verb_of}
-use Rattle.ot_args.specs.Grammar.{operands_of, FitsOperands, FitsSettings, IsWrittenOut, IsRead, command_value, command_answer}
+use Rattle.ot_args.specs.Grammar.{operands_of, FitsOperands, FitsSettings, IsWrittenOut, IsRead}
+use Rattle.ot_args.specs.Grammar.{command_value, command_answer}
 use Rattle.ot_args.proofs.Counts.{found, finds}
 use Rattle.ot_args.proofs.Steps.{flag_first, operand_first}
 

@@ -122,6 +122,10 @@ module _ (k l m n o p : List Item) (kl : Extends k l) (lm : Extends l m) (mn : E
       let rel : type_at n relation ≡ fun_ty names (type_at k ty) (fun_ty names (type_at k ty) (bool_ty names)) =
       type-is n relation _ is_relation ∙ (λ i. fun_ty names (ty_m i) (pred i)) in
       let equal = name-equals n first in
-      let constant : term_at o equals ≡ Con names.equals (fun_ty names (type_at k ty) (fun_ty names (type_at k ty) (bool_ty names))) = term-is o equals _ is_constant ∙ (λ i. Con (equal i) (rel i)) in
-      let left : term_at p half ≡ App (Con names.equals (fun_ty names (type_at k ty) (fun_ty names (type_at k ty) (bool_ty names)))) (term_at k a) = term-is p half _ is_half ∙ (λ i. App (constant i) (a_o i)) in
+      let constant : term_at o equals
+      ≡ Con names.equals (fun_ty names (type_at k ty) (fun_ty names (type_at k ty) (bool_ty names))) =
+      term-is o equals _ is_constant ∙ (λ i. Con (equal i) (rel i)) in
+      let left : term_at p half
+      ≡ App (Con names.equals (fun_ty names (type_at k ty) (fun_ty names (type_at k ty) (bool_ty names)))) (term_at k a) =
+      term-is p half _ is_half ∙ (λ i. App (constant i) (a_o i)) in
       λ i. App (left i) (b_p i)

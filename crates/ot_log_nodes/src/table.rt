@@ -59,8 +59,10 @@ impl Model for Nodes {
 }
 
 impl Nodes {
-    ghost use Rattle.ot_log_nodes.specs.Items.{Item, IsName, IsType, IsTerm, HasName, HasType, HasTerm, name_at, type_at, types_at, term_at, first_items};
-    ghost use Rattle.ot_log_nodes.specs.Table.{type_tree, term_tree, tree_of, HasParts, HasTypeParts, HasTermParts, IsBeside, IsTermBeside, Fits};
+    ghost use Rattle.ot_log_nodes.specs.Items.{Item, IsName, IsType, IsTerm, HasName, HasType, HasTerm};
+    ghost use Rattle.ot_log_nodes.specs.Items.{name_at, type_at, types_at, term_at, first_items};
+    ghost use Rattle.ot_log_nodes.specs.Table.{type_tree, term_tree, tree_of, HasParts, HasTypeParts, HasTermParts};
+    ghost use Rattle.ot_log_nodes.specs.Table.{IsBeside, IsTermBeside, Fits};
     ghost use Rattle.ot_log_nodes.specs.Below.{AreTypesBelow, AreTermsBelow, AreBelow};
     ghost use Rattle.ot_logic.specs.Interned.{IsEntry};
 

@@ -142,7 +142,7 @@ fn push_name(nodes: &Nodes, name: NameId, pieces: &mut Vec<Piece>) -> Result<(),
     ensures { OnOk result (Opens nodes.now (name_text (name_at nodes.now name)) pieces.old.items pieces.new.items) }
 {
     let name = nodes.name_of(name);
-    // A name has a component at least.
+    // A name has a component.
     let _components = name.components();
     let mut text = Vec::new(nodes.allocator());
     name.spell(&mut text)?;

@@ -86,7 +86,8 @@ impl Sheet {
         operands: &[Operand],
     ) -> Result<(), Memory>
         requires operands { All (HasOperand nodes.now) operands.now }
-        ensures moves { OnOk result (Moves nodes.now self.old self.new (write_entry (entry_at nodes.now word operands.now))) }
+        ensures moves { OnOk result
+            (Moves nodes.now self.old self.new (write_entry (entry_at nodes.now word operands.now))) }
     {
         self.write_operands(nodes, operands)?;
         self.put(nodes, word, operands);
@@ -288,7 +289,8 @@ impl Sheet {
     /// A line with what a record names: types and terms by number.
     fn put_operand(&mut self, nodes: &Nodes, operand: Operand)
         requires operand { HasOperand nodes.now operand }
-        ensures moves { Moves nodes.now self.old self.new (λ x. add_tokens (token_of x (operand_at nodes.now operand) ∷ []) x) }
+        ensures moves { Moves nodes.now self.old self.new
+            (λ x. add_tokens (token_of x (operand_at nodes.now operand) ∷ []) x) }
     {
         match operand {
             Operand::Count(number) => self.put_number(number),
@@ -302,7 +304,8 @@ impl Sheet {
     /// A line with the number of a type.
     fn put_type(&mut self, nodes: &Nodes, id: TypeId)
         requires ty { HasType nodes.now id }
-        ensures moves { Moves nodes.now self.old self.new (λ x. add_tokens (token_of x (AType (type_at nodes.now id)) ∷ []) x) }
+        ensures moves { Moves nodes.now self.old self.new
+            (λ x. add_tokens (token_of x (AType (type_at nodes.now id)) ∷ []) x) }
     {
         nodes.primitives();
         let number = self.type_number(id);
@@ -312,7 +315,8 @@ impl Sheet {
     /// A line with the number of a term.
     fn put_term(&mut self, nodes: &Nodes, id: TermId)
         requires term { HasTerm nodes.now id }
-        ensures moves { Moves nodes.now self.old self.new (λ x. add_tokens (token_of x (ATerm (term_at nodes.now id)) ∷ []) x) }
+        ensures moves { Moves nodes.now self.old self.new
+            (λ x. add_tokens (token_of x (ATerm (term_at nodes.now id)) ∷ []) x) }
     {
         nodes.primitives();
         let number = self.term_number(id);

@@ -228,7 +228,9 @@ module _ (ts : List Item) (a b : Statement) where
       let trees : terms_at us q.hyps.items ≡ union names (terms_at ts a.hyps.items) (terms_at ts b.hyps.items) =
       ap (terms_at us) hyps ∙ terms-stay ts us e (joined a.hyps.items b.hyps.items) has
       ∙ union-numbers ts one a.hyps.items b.hyps.items ha.hyps hb.hyps in
-      let concl : term_at us q.concl ≡ equation names (type_at ts to) (App (term_at ts f.left) (term_at ts x.left)) (App (term_at ts f.right) (term_at ts x.right)) = ap (term_at us) same ∙ term-is us id _ is in (
+      let concl : term_at us q.concl ≡ equation names (type_at ts to) (App (term_at ts f.left) (term_at ts x.left))
+      (App (term_at ts f.right) (term_at ts x.right)) =
+      ap (term_at us) same ∙ term-is us id _ is in (
         record {
           hyps = subst (All (HasTerm us)) (sym hyps)
               (still-terms ts us e (joined a.hyps.items b.hyps.items) has);
@@ -261,7 +263,9 @@ module _ (ts : List Item) (a b : Statement) where
       let has = has-joined ts left right has_left has_right in
       let minus_left = minus-numbers ts one b.concl a.hyps.items hb.concl ha.hyps in
       let minus_right = minus-numbers ts one a.concl b.hyps.items ha.concl hb.hyps in
-      let trees : terms_at us q.hyps.items ≡ union names (minus names (term_at ts b.concl) (terms_at ts a.hyps.items)) (minus names (term_at ts a.concl) (terms_at ts b.hyps.items)) =
+      let trees : terms_at us q.hyps.items ≡ union names
+      (minus names (term_at ts b.concl) (terms_at ts a.hyps.items))
+      (minus names (term_at ts a.concl) (terms_at ts b.hyps.items)) =
       ap (terms_at us) hyps ∙ terms-stay ts us e (joined left right) has
       ∙ union-numbers ts one left right has_left has_right ∙ (λ i. union names (minus_left i) (minus_right i)) in
       let concl : term_at us q.concl ≡ equation names (bool_ty names) (term_at ts a.concl) (term_at ts b.concl) =
@@ -369,7 +373,9 @@ module _ (ts : List Item) (v : Variable Name) (a : Statement) where
   abs_thm-made us e ha s b q h test contrary hyps id same is =
       let trees : terms_at us q.hyps.items ≡ terms_at ts a.hyps.items = ap (terms_at us) hyps
       ∙ terms-stay ts us e a.hyps.items ha.hyps in
-      let concl : term_at us q.concl ≡ equation names (fun_ty names v.ty (type_at ts s.ty)) (Abs v.ty (close names v (term_at ts s.left))) (Abs v.ty (close names v (term_at ts s.right))) = ap (term_at us) same ∙ term-is us id _ is in (
+      let concl : term_at us q.concl ≡ equation names (fun_ty names v.ty (type_at ts s.ty))
+      (Abs v.ty (close names v (term_at ts s.left))) (Abs v.ty (close names v (term_at ts s.right))) =
+      ap (term_at us) same ∙ term-is us id _ is in (
         record {
           hyps = subst (All (HasTerm us)) (sym hyps) (still-terms ts us e a.hyps.items ha.hyps);
           concl = subst (HasTerm us) (sym same) (has-term us id _ is);

@@ -225,7 +225,8 @@ module _ (ts : List Item) (p q r : Parts) where
       → Gathers ts (marks_each (terms_at ts (take k ids))) p q → Gathers ts (marks_tm (term_at ts i)) q r
       → Gathers ts (marks_each (terms_at ts (take (k + 1) ids))) p r
   gathers-next_term ids k i h e g n =
-      let next : marks_each (terms_at ts (take (k + 1) ids)) ≡ marks_each (terms_at ts (take k ids)) ++ marks_tm (term_at ts i) =
+      let next : marks_each (terms_at ts (take (k + 1) ids))
+      ≡ marks_each (terms_at ts (take k ids)) ++ marks_tm (term_at ts i) =
       ap marks_each (map_more (term_at ts) ids k i h ∙ ap (λ j. terms_at ts (take k ids) ++ term_at ts j ∷ [])
       (sym e)) ∙ each-push (terms_at ts (take k ids)) (term_at ts i) in
       subst (λ ms. Gathers ts ms p r) (sym next)
@@ -236,7 +237,8 @@ module _ (ts : List Item) (p q r : Parts) where
       → Gathers ts (marks_sequent (sequent_at ts s)) q r
       → Gathers ts (marks_sequents (map (sequent_at ts) (take (k + 1) ss))) p r
   gathers-next_sequent ss k s h e g n =
-      let next : marks_sequents (map (sequent_at ts) (take (k + 1) ss)) ≡ marks_sequents (map (sequent_at ts) (take k ss)) ++ marks_sequent (sequent_at ts s) =
+      let next : marks_sequents (map (sequent_at ts) (take (k + 1) ss))
+      ≡ marks_sequents (map (sequent_at ts) (take k ss)) ++ marks_sequent (sequent_at ts s) =
       ap marks_sequents
       (map_more (sequent_at ts) ss k s h ∙ ap (λ j. map (sequent_at ts) (take k ss) ++ sequent_at ts j ∷ [])
       (sym e)) ∙ sequents-push (map (sequent_at ts) (take k ss)) (sequent_at ts s) in
@@ -248,7 +250,8 @@ module _ (ts : List Item) (p q r : Parts) where
       → Gathers ts (marks_all (types_at ts (take k ids))) p q → Gathers ts (marks_ty (type_at ts i)) q r
       → Gathers ts (marks_all (types_at ts (take (k + 1) ids))) p r
   gathers-next_type ids k i h e g n =
-      let next : marks_all (types_at ts (take (k + 1) ids)) ≡ marks_all (types_at ts (take k ids)) ++ marks_ty (type_at ts i) =
+      let next : marks_all (types_at ts (take (k + 1) ids))
+      ≡ marks_all (types_at ts (take k ids)) ++ marks_ty (type_at ts i) =
       ap (λ l. marks_all (types_at ts l)) (take_more ids k i h ∙ ap (λ j. take k ids ++ j ∷ []) (sym e))
       ∙ types-push (take k ids) i in
       subst (λ ms. Gathers ts ms p r) (sym next)

@@ -74,10 +74,13 @@ module _ (ts : List Item) (one : IsInjective ts) (types : List (ℕ × ℕ)) (te
       let m : term_map us (firsts variable_eq terms) ≡ first_pairs names whole_terms =
       term_map-stays ts us e (firsts variable_eq terms) (terms-firsts ts one terms has_terms)
       ∙ first_pairs-numbers ts one terms has_terms in
-      let same : (t : Tm Name) → subst_tm names (type_map us (firsts nat_eq types)) (term_map us (firsts variable_eq terms)) t ≡ subst_tm names whole_types (first_pairs names whole_terms) t =
+      let same : (t : Tm Name)
+      → subst_tm names (type_map us (firsts nat_eq types)) (term_map us (firsts variable_eq terms)) t
+      ≡ subst_tm names whole_types (first_pairs names whole_terms) t =
       λ t. (λ i. subst_tm names (s i) (m i) t)
       ∙ subst-first_types names tells_names whole_types (first_pairs names whole_terms) t in
-      let hyps : terms_at vs q.hyps.items ≡ once_each names (map (subst_tm names whole_types (first_pairs names whole_terms)) (terms_at ts a.hyps.items)) =
+      let hyps : terms_at vs q.hyps.items ≡ once_each names
+      (map (subst_tm names whole_types (first_pairs names whole_terms)) (terms_at ts a.hyps.items)) =
       put.hyps ∙ (λ i. once_each names (map (λ t. same t i) (terms-stay ts us e a.hyps.items ha.hyps i))) in
       let concl : term_at vs q.concl ≡ subst_tm names whole_types (first_pairs names whole_terms) (term_at ts a.concl) =
       put.concl ∙ same (term_at us a.concl) ∙ ap (subst_tm names whole_types (first_pairs names whole_terms))

@@ -54,7 +54,7 @@ impl Parts {
         requires gone { IsGoneOver nodes.now self.old }
         ensures { OnOk result (Gathers nodes.now (mark_at nodes.now mark ∷ []) self.old self.new) }
     {
-        // The contract alone asks for the table.
+        // The table is asked for by the contract alone.
         let _nodes = nodes;
         self.marks.insert(mark)?;
         Ok(())

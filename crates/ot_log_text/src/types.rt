@@ -13,7 +13,7 @@ pub(crate) fn put_name(page: &mut Page, nodes: &Nodes, name: NameId)
     ensures { IsPut (name_text (name_at nodes.now name)) (printed page.old) (printed page.new) }
 {
     let name = nodes.name_of(name);
-    // A name has a component at least.
+    // A name has a component.
     let _components = name.components();
     page.put_name(name);
 }
