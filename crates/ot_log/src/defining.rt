@@ -94,7 +94,8 @@ impl Writer {
         requires rep { rep < length session.now.trace }
         requires list { list < length session.now.trace }
         requires a { a < length session.now.trace }
-        requires definable { IsDefinable (Define words.DefineTypeOp (origins_of session.now (n ∷ abs ∷ rep ∷ list ∷ a ∷ []))) }
+        requires definable { IsDefinable
+            (Define words.DefineTypeOp (origins_of session.now (n ∷ abs ∷ rep ∷ list ∷ a ∷ []))) }
         requires there { HavePlaces session.now self.old.places.items (n ∷ abs ∷ rep ∷ list ∷ a ∷ []) }
         ensures puts { IfOk result (λ v.
             PutsDefinition session.now self.old self.new words.DefineTypeOp (n ∷ abs ∷ rep ∷ list ∷ a ∷ []) v.items) }
@@ -250,7 +251,8 @@ impl Writer {
         requires writer { IsWriter session.now self.old }
         requires inside { id < length session.now.trace }
         requires has { HasStatement self.old.nodes theorem }
-        requires makes { Makes (Outcome place (origin_of session.now id)) (object.theorem (sequent_at self.old.nodes theorem)) }
+        requires makes { Makes (Outcome place (origin_of session.now id))
+            (object.theorem (sequent_at self.old.nodes theorem)) }
         ensures writer { OnOk result (IsWriter session.now self.new) }
         ensures nodes { OnOk result (self.new.nodes ≡ self.old.nodes) }
         ensures moves { OnOk result (Moves session.now self.old self.new

@@ -43,8 +43,8 @@ fn write_refl(
 ) -> Result<Made, StepFault>
     requires t { HasTerm nodes.old t }
     requires known { AreTypings nodes.old typings.old.known.entries }
-    ensures records { IfOk result (Records nodes.old nodes.new sheet.old sheet.new words.Refl (term (term_at nodes.old t) ∷ [])
-        []) }
+    ensures records { IfOk result (Records nodes.old nodes.new sheet.old sheet.new words.Refl
+        (term (term_at nodes.old t) ∷ []) []) }
     ensures accepts { IsWellTyped names (term_at nodes.old t) → Accepts result words.Refl (term (term_at nodes.old t) ∷ []) }
     ensures extends { Extends nodes.old nodes.new }
     ensures known { AreTypings nodes.new typings.new.known.entries }
@@ -62,8 +62,8 @@ fn write_assume(
 ) -> Result<Made, StepFault>
     requires p { HasTerm nodes.old p }
     requires known { AreTypings nodes.old typings.old.known.entries }
-    ensures records { IfOk result (Records nodes.old nodes.new sheet.old sheet.new words.Assume (term (term_at nodes.old p) ∷ [])
-        []) }
+    ensures records { IfOk result (Records nodes.old nodes.new sheet.old sheet.new words.Assume
+        (term (term_at nodes.old p) ∷ []) []) }
     ensures accepts { Accepts result words.Assume (term (term_at nodes.old p) ∷ []) }
     ensures extends { Extends nodes.old nodes.new }
     ensures known { AreTypings nodes.new typings.new.known.entries }
@@ -83,7 +83,8 @@ fn write_beta_conv(
     requires known { AreTypings nodes.old typings.old.known.entries }
     ensures records { IfOk result (Records nodes.old nodes.new sheet.old sheet.new words.BetaConv
         (term (term_at nodes.old t) ∷ []) []) }
-    ensures accepts { IsWellTyped names (term_at nodes.old t) → Accepts result words.BetaConv (term (term_at nodes.old t) ∷ []) }
+    ensures accepts { IsWellTyped names (term_at nodes.old t)
+        → Accepts result words.BetaConv (term (term_at nodes.old t) ∷ []) }
     ensures extends { Extends nodes.old nodes.new }
     ensures known { AreTypings nodes.new typings.new.known.entries }
 {
@@ -288,7 +289,8 @@ pub fn write_of_one_term(
 ) -> Result<Made, StepFault>
     requires t { HasTerm nodes.old t }
     requires known { AreTypings nodes.old typings.old.known.entries }
-    ensures records { IfOk result (Records nodes.old nodes.new sheet.old sheet.new word (term (term_at nodes.old t) ∷ []) []) }
+    ensures records { IfOk result (Records nodes.old nodes.new sheet.old sheet.new word
+        (term (term_at nodes.old t) ∷ []) []) }
     ensures accepts { IsWellTyped names (term_at nodes.old t) → Accepts result word (term (term_at nodes.old t) ∷ []) }
     ensures extends { Extends nodes.old nodes.new }
     ensures known { AreTypings nodes.new typings.new.known.entries }

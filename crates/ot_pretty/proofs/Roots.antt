@@ -65,14 +65,16 @@ module _ (s : State) where
   adds-nothing ids =
       record { inside = λ h. h; symbols = same-lists _ _ (sym (append-nil (symbols_all names (terms_at s ids)))) }
 
-  pub adds-same : {old new : List ℕ} {x y : List (Symbol Name)} → IsSameSet x y → HasMoreTerms s old new x → HasMoreTerms s old new y
+  pub adds-same : {old new : List ℕ} {x y : List (Symbol Name)} → IsSameSet x y → HasMoreTerms s old new x
+      → HasMoreTerms s old new y
   adds-same {old} {new} {x} {y} p a =
       record {
         inside = a.inside;
         symbols = same_set-then a.symbols (same_set-append (same_set-self (symbols_all names (terms_at s old))) p);
       }
 
-  pub adds-then : {a b c : List ℕ} {x y : List (Symbol Name)} → HasMoreTerms s a b x → HasMoreTerms s b c y → HasMoreTerms s a c (x ++ y)
+  pub adds-then : {a b c : List ℕ} {x y : List (Symbol Name)} → HasMoreTerms s a b x → HasMoreTerms s b c y
+      → HasMoreTerms s a c (x ++ y)
   adds-then {a} {b} {c} {x} {y} p q = record {
     inside = λ h. q.inside (p.inside h);
     symbols =

@@ -33,7 +33,8 @@ pub(crate) fn found_symbols(
     ids: &[TermId],
 ) -> Result<Vec<Symbol>, Memory>
     requires { All (λ i. i < length kernel.now.terms) ids.now }
-    ensures symbols { IfOk result (λ v. IsSameSet (map (named_symbol kernel.now) v.items) (term_symbols kernel.now ids.now)) }
+    ensures symbols { IfOk result
+        (λ v. IsSameSet (map (named_symbol kernel.now) v.items) (term_symbols kernel.now ids.now)) }
     ensures inside { IfOk result (λ v. All (λ x. x.name < length kernel.now.names) v.items) }
     ensures once { IfOk result (λ v. AreDistinct v.items) }
 {

@@ -17,8 +17,8 @@ use std::alloc::Global;
 /// Appends the readable summary of a run that exports these theorems, where these namespaces are shown: the
 /// assumptions, in the order of the bytes of their texts, and the theorems, in the order given. The notation is that
 /// of the run's symbols.
-/// `TooLarge` exactly where the summary has more than `max` bytes. After a refusal `out` is as it was. Each text reads back as
-/// the sequent that it was printed for.
+/// `TooLarge` exactly where the summary has more than `max` bytes. After a refusal `out` is as it was. Each text
+/// reads back as the sequent that it was printed for.
 pub fn readable_summary(
     alloc: Global,
     kernel: &Kernel,

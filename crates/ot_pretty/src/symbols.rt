@@ -106,7 +106,8 @@ fn named_symbols(
     ids: &[TermId],
 ) -> Result<Vec<(WordKind, Name)>, Memory>
     requires { All (λ i. i < length kernel.now.terms) ids.now }
-    ensures symbols { IfOk result (λ v. IsSameSet (map symbol_of v.items) (symbols_all names (terms_at kernel.now ids.now))) }
+    ensures symbols { IfOk result
+        (λ v. IsSameSet (map symbol_of v.items) (symbols_all names (terms_at kernel.now ids.now))) }
     ensures once { IfOk result (λ v. AreDistinct (map symbol_of v.items)) }
 {
     kernel.sound();

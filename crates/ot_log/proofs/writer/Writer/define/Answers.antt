@@ -48,7 +48,8 @@ theorems-requires-clause-values c =
     definable-values (origin_of s c.args.id) c.in-Define.word (origins_of s c.as_slice.result.now)
     (defined-origin s c.args.id c.trace.result.now c.step.result.now c.in-Define.word c.in-Define.operands
     c.in-Define.field-2
-    c.as_slice.result.now c.trace.ensures c.step.ensures.origin c.in-Define.is (c.as_slice.ensures.value ∙ ap (λ v. v.items) c.deref.ensures))
+    c.as_slice.result.now c.trace.ensures c.step.ensures.origin c.in-Define.is
+    (c.as_slice.ensures.value ∙ ap (λ v. v.items) c.deref.ensures))
     c.requires.definable
 
 pub put_definition-requires-clause-definable : goal.put_definition-requires-clause-definable
@@ -116,13 +117,17 @@ returns-in-DefineConst-clause-moves c =
     let ids = c.as_slice-in-Define.result.now in
     let o = origin_of s c.args.id in
     let e = defined-origin s c.args.id c.trace.result.now c.step.result.now c.in-Define.word c.in-Define.operands
-    c.in-Define.field-2 ids c.trace.ensures c.step.ensures.origin c.in-Define.is (c.as_slice-in-Define.ensures.value ∙ ap (λ v. v.items) c.deref-in-Define.ensures) in
+    c.in-Define.field-2 ids c.trace.ensures c.step.ensures.origin c.in-Define.is
+    (c.as_slice-in-Define.ensures.value ∙ ap (λ v. v.items) c.deref-in-Define.ensures) in
     let inside = defined-inside (length s.trace) c.args.id c.step.result.now c.in-Define.word c.in-Define.operands
-    c.in-Define.field-2 ids c.step.ensures.below c.in-Define.is (c.as_slice-in-Define.ensures.value ∙ ap (λ v. v.items) c.deref-in-Define.ensures) c.requires.inside in
+    c.in-Define.field-2 ids c.step.ensures.below c.in-Define.is
+    (c.as_slice-in-Define.ensures.value ∙ ap (λ v. v.items) c.deref-in-Define.ensures) c.requires.inside in
     on-ok c.mark_one.result
     (λ m. define-moves s c.args.self.now c.theorems.new.self c.put_definition.new.self c.mark_one.new.self
     c.in-Define.word c.args.id c.as_slice.result.now ids c.in-Ok.made.items (Outcome 1 o ∷ [])
-    e ((c.as_slice.ensures.value ∙ ap (λ v. v.items) c.deref.ensures) ∙ sym (c.as_slice-in-Define.ensures.value ∙ ap (λ v. v.items) c.deref-in-Define.ensures)) c.in_ok-theorems-in-Define.ensures.moves
+    e ((c.as_slice.ensures.value ∙ ap (λ v. v.items) c.deref.ensures)
+    ∙ sym (c.as_slice-in-Define.ensures.value ∙ ap (λ v. v.items) c.deref-in-Define.ensures))
+    c.in_ok-theorems-in-Define.ensures.moves
     c.in-Ok.ensures.puts inside
     (ap (λ w. outcomes w o) c.in-DefineConst.is) m) c.mark_one.ensures.moves
 
@@ -132,14 +137,18 @@ returns-in-DefineConstList-clause-moves c =
     let ids = c.as_slice-in-Define.result.now in
     let o = origin_of s c.args.id in
     let e = defined-origin s c.args.id c.trace.result.now c.step.result.now c.in-Define.word c.in-Define.operands
-    c.in-Define.field-2 ids c.trace.ensures c.step.ensures.origin c.in-Define.is (c.as_slice-in-Define.ensures.value ∙ ap (λ v. v.items) c.deref-in-Define.ensures) in
+    c.in-Define.field-2 ids c.trace.ensures c.step.ensures.origin c.in-Define.is
+    (c.as_slice-in-Define.ensures.value ∙ ap (λ v. v.items) c.deref-in-Define.ensures) in
     let inside = defined-inside (length s.trace) c.args.id c.step.result.now c.in-Define.word c.in-Define.operands
-    c.in-Define.field-2 ids c.step.ensures.below c.in-Define.is (c.as_slice-in-Define.ensures.value ∙ ap (λ v. v.items) c.deref-in-Define.ensures) c.requires.inside in
+    c.in-Define.field-2 ids c.step.ensures.below c.in-Define.is
+    (c.as_slice-in-Define.ensures.value ∙ ap (λ v. v.items) c.deref-in-Define.ensures) c.requires.inside in
     on-ok c.mark_one-in-DefineConstList.result
     (λ m. define-moves s c.args.self.now c.theorems.new.self c.put_definition.new.self
     c.mark_one-in-DefineConstList.new.self c.in-Define.word c.args.id c.as_slice.result.now ids c.in-Ok.made.items
     (Outcome 1 o ∷ [])
-    e ((c.as_slice.ensures.value ∙ ap (λ v. v.items) c.deref.ensures) ∙ sym (c.as_slice-in-Define.ensures.value ∙ ap (λ v. v.items) c.deref-in-Define.ensures)) c.in_ok-theorems-in-Define.ensures.moves
+    e ((c.as_slice.ensures.value ∙ ap (λ v. v.items) c.deref.ensures)
+    ∙ sym (c.as_slice-in-Define.ensures.value ∙ ap (λ v. v.items) c.deref-in-Define.ensures))
+    c.in_ok-theorems-in-Define.ensures.moves
     c.in-Ok.ensures.puts inside
     (ap (λ w. outcomes w o) c.in-DefineConstList.is) m) c.mark_one-in-DefineConstList.ensures.moves
 
@@ -149,13 +158,17 @@ returns-in-DefineTypeOp-clause-moves c =
     let ids = c.as_slice-in-Define.result.now in
     let o = origin_of s c.args.id in
     let e = defined-origin s c.args.id c.trace.result.now c.step.result.now c.in-Define.word c.in-Define.operands
-    c.in-Define.field-2 ids c.trace.ensures c.step.ensures.origin c.in-Define.is (c.as_slice-in-Define.ensures.value ∙ ap (λ v. v.items) c.deref-in-Define.ensures) in
+    c.in-Define.field-2 ids c.trace.ensures c.step.ensures.origin c.in-Define.is
+    (c.as_slice-in-Define.ensures.value ∙ ap (λ v. v.items) c.deref-in-Define.ensures) in
     let inside = defined-inside (length s.trace) c.args.id c.step.result.now c.in-Define.word c.in-Define.operands
-    c.in-Define.field-2 ids c.step.ensures.below c.in-Define.is (c.as_slice-in-Define.ensures.value ∙ ap (λ v. v.items) c.deref-in-Define.ensures) c.requires.inside in
+    c.in-Define.field-2 ids c.step.ensures.below c.in-Define.is
+    (c.as_slice-in-Define.ensures.value ∙ ap (λ v. v.items) c.deref-in-Define.ensures) c.requires.inside in
     on-ok c.mark_two.result
     (λ m. define-moves s c.args.self.now c.theorems.new.self c.put_definition.new.self c.mark_two.new.self
     c.in-Define.word c.args.id c.as_slice.result.now ids c.in-Ok.made.items (Outcome 1 o ∷ Outcome 2 o ∷ [])
-    e ((c.as_slice.ensures.value ∙ ap (λ v. v.items) c.deref.ensures) ∙ sym (c.as_slice-in-Define.ensures.value ∙ ap (λ v. v.items) c.deref-in-Define.ensures)) c.in_ok-theorems-in-Define.ensures.moves
+    e ((c.as_slice.ensures.value ∙ ap (λ v. v.items) c.deref.ensures)
+    ∙ sym (c.as_slice-in-Define.ensures.value ∙ ap (λ v. v.items) c.deref-in-Define.ensures))
+    c.in_ok-theorems-in-Define.ensures.moves
     c.in-Ok.ensures.puts inside
     (ap (λ w. outcomes w o) c.in-DefineTypeOp.is) m) c.mark_two.ensures.moves
 

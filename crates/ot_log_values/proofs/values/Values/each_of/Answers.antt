@@ -46,7 +46,8 @@ pub read-requires-clause-value : goal.read-requires-clause-value
 read-requires-clause-value g c =
     let s = c.args.session.now in
     let here = c.step-item.is in
-    let each = elements-read s g.E.Element.as_one (origin_of s c.args.list) c.in_ok-steps.steps.items c.deref-step-items.result.now
+    let each = elements-read s g.E.Element.as_one (origin_of s c.args.list) c.in_ok-steps.steps.items
+    c.deref-step-items.result.now
     c.deref-step-items.ensures.value c.in_ok-steps.ensures.made c.requires.value in
     subst (λ (i : ℕ). Reads g.E.Element.as_one (origin_of s i)) (sym here)
     (each c.loop-step.step-index c.step-item.result (omega arith))
