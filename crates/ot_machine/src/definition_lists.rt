@@ -51,10 +51,10 @@ impl Session {
         ensures name { IfOk result (λ p. p.0 < length self.now.kernel.names) }
         ensures variable { IfOk result (λ p. (p.1.name < length self.now.kernel.names) × (p.1.ty < length self.now.kernel.types)) }
     {
-        let list = self.list_in(machine, pair, ListForm::Definition)?;
+        let list = self.list_in(pair, ListForm::Definition)?;
         let (name, variable) = self.two_of(machine, list, ListForm::Definition)?;
-        let name = self.name_in(machine, name, ListForm::Definition)?;
-        let variable = self.variable_in(machine, variable, ListForm::Definition)?;
+        let name = self.name_in(name, ListForm::Definition)?;
+        let variable = self.variable_in(variable, ListForm::Definition)?;
         Ok((name, variable))
     }
 }

@@ -3,6 +3,7 @@ ghost use Rattle.std.specs.Prelude.{◌≡◌, ◌<◌, ℕ, Some, length, IfOk}
 ghost use Rattle.ot_logic.specs.Names.{Name};
 ghost use Rattle.ot_kernel.specs.State.{State, name_at, variable_at};
 ghost use Rattle.ot_machine.specs.Faults.{fault_of};
+ghost use Rattle.ot_machine.specs.Objects.{Lists};
 ghost use Rattle.ot_machine.specs.Parts.{or_bad, two_of, bad_list};
 ghost use Rattle.ot_machine.specs.Places.{as_list, as_name, as_variable};
 ghost use Rattle.ot_machine.specs.Meaning.{object_of, list_at, lists_of, IsOf, IsIn, IsListIn};
@@ -83,16 +84,10 @@ impl Session {
     }
 
     /// An object that has to be a list.
-    pub(crate) fn list_in(
-        &self,
-        machine: &Machine,
-        object: Object,
-        form: ListForm,
-    ) -> Result<List, Fault>
-        requires { IsIn self.now.kernel (length machine.now.cells.items) object }
-        ensures read { Makes self.now.kernel (list_at (lists_of self.now machine.now)) result
-            (or_bad (bad_list form) (as_list (object_of self.now.kernel (lists_of self.now machine.now) object))) }
-        ensures inside { IfOk result (IsListIn (length machine.now.cells.items)) }
+    pub(crate) fn list_in(&self, object: Object, form: ListForm) -> Result<List, Fault>
+        ensures read { (cs : Lists) → Makes self.now.kernel (list_at cs) result
+            (or_bad (bad_list form) (as_list (object_of self.now.kernel cs object))) }
+        ensures inside { (n : ℕ) → IsIn self.now.kernel n object → IfOk result (IsListIn n) }
     {
         match object {
             Object::List(list) => Ok(list),
@@ -101,16 +96,10 @@ impl Session {
     }
 
     /// An object that has to be a name.
-    pub(crate) fn name_in(
-        &self,
-        machine: &Machine,
-        object: Object,
-        form: ListForm,
-    ) -> Result<NameId, Fault>
-        requires { IsIn self.now.kernel (length machine.now.cells.items) object }
-        ensures read { Makes self.now.kernel (name_at self.now.kernel) result
-            (or_bad (bad_list form) (as_name (object_of self.now.kernel (lists_of self.now machine.now) object))) }
-        ensures inside { IfOk result (λ n. n < length self.now.kernel.names) }
+    pub(crate) fn name_in(&self, object: Object, form: ListForm) -> Result<NameId, Fault>
+        ensures read { (cs : Lists) → Makes self.now.kernel (name_at self.now.kernel) result
+            (or_bad (bad_list form) (as_name (object_of self.now.kernel cs object))) }
+        ensures inside { (n : ℕ) → IsIn self.now.kernel n object → IfOk result (λ i. i < length self.now.kernel.names) }
     {
         match object {
             Object::Name(name) => Ok(name),
@@ -119,18 +108,12 @@ impl Session {
     }
 
     /// An object that has to be a variable.
-    pub(crate) fn variable_in(
-        &self,
-        machine: &Machine,
-        object: Object,
-        form: ListForm,
-    ) -> Result<VarKey, Fault>
-        requires { IsIn self.now.kernel (length machine.now.cells.items) object }
-        ensures read { Makes self.now.kernel (variable_at self.now.kernel) result
+    pub(crate) fn variable_in(&self, object: Object, form: ListForm) -> Result<VarKey, Fault>
+        ensures read { (cs : Lists) → Makes self.now.kernel (variable_at self.now.kernel) result
             (or_bad (bad_list form)
-            (as_variable (object_of self.now.kernel (lists_of self.now machine.now) object))) }
-        ensures name { IfOk result (λ v. v.name < length self.now.kernel.names) }
-        ensures ty { IfOk result (λ v. v.ty < length self.now.kernel.types) }
+            (as_variable (object_of self.now.kernel cs object))) }
+        ensures name { (n : ℕ) → IsIn self.now.kernel n object → IfOk result (λ v. v.name < length self.now.kernel.names) }
+        ensures ty { (n : ℕ) → IsIn self.now.kernel n object → IfOk result (λ v. v.ty < length self.now.kernel.types) }
     {
         match object {
             Object::Var(variable) => Ok(variable),

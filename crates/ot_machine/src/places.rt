@@ -1,8 +1,9 @@
 //! What stands on the stack of a machine of this session, and of which kind. 0 is the top.
-ghost use Rattle.std.specs.Prelude.{◌≡◌, ◌<◌, length, Ok, IfOk, OnOk, vec_len};
+ghost use Rattle.std.specs.Prelude.{◌≡◌, ◌<◌, ℕ, length, Ok, IfOk, OnOk, vec_len};
 ghost use Rattle.ot_kernel.specs.State.{name_at, type_at, variable_at, term_at, theorem_at};
 ghost use Rattle.ot_machine.specs.Meaning.{object_of, origin_of, entry_of, list_at, lists_of};
 ghost use Rattle.ot_machine.specs.Meaning.{article_of, IsNumber, IsOf, IsIn, IsEntryIn, IsListIn};
+ghost use Rattle.ot_machine.specs.Objects.{Lists};
 ghost use Rattle.ot_machine.specs.Rows.{origin_at};
 ghost use Rattle.ot_machine.specs.Places.{as_term, as_theorem, entry_at, list_entry, object_at};
 ghost use Rattle.ot_machine.specs.Places.{number_on, name_on, list_on, type_op_on, type_on};
@@ -217,7 +218,7 @@ impl Session {
     {
         let entry = self.entry_at(machine, place)?;
         let step = entry.step;
-        let term = self.term_of(machine, entry.object)?;
+        let term = self.term_of(entry.object)?;
         Ok((term, self.step_of(entry.object, step)))
     }
 
@@ -236,17 +237,16 @@ impl Session {
     {
         let entry = self.entry_at(machine, place)?;
         let step = entry.step;
-        let theorem = self.theorem_of(machine, entry.object)?;
+        let theorem = self.theorem_of(entry.object)?;
         Ok((theorem, self.step_of(entry.object, step)))
     }
 
     /// An object that has to be a term.
-    fn term_of(&self, machine: &Machine, object: Object) -> Result<TermId, Fault>
-        requires { IsIn self.now.kernel (length machine.now.cells.items) object }
-        ensures found { Makes self.now.kernel (term_at self.now.kernel) result
-            (as_term (object_of self.now.kernel (lists_of self.now machine.now) object)) }
+    fn term_of(&self, object: Object) -> Result<TermId, Fault>
+        ensures found { (cs : Lists) → Makes self.now.kernel (term_at self.now.kernel) result
+            (as_term (object_of self.now.kernel cs object)) }
         ensures made { OnOk result (IsNumber object → ⊥) }
-        ensures inside { IfOk result (λ t. t < length self.now.kernel.terms) }
+        ensures inside { (n : ℕ) → IsIn self.now.kernel n object → IfOk result (λ t. t < length self.now.kernel.terms) }
     {
         match object {
             Object::Term(term) => Ok(term),
@@ -255,12 +255,11 @@ impl Session {
     }
 
     /// An object that has to be a theorem.
-    fn theorem_of(&self, machine: &Machine, object: Object) -> Result<ThmId, Fault>
-        requires { IsIn self.now.kernel (length machine.now.cells.items) object }
-        ensures found { Makes self.now.kernel (theorem_at self.now.kernel) result
-            (as_theorem (object_of self.now.kernel (lists_of self.now machine.now) object)) }
+    fn theorem_of(&self, object: Object) -> Result<ThmId, Fault>
+        ensures found { (cs : Lists) → Makes self.now.kernel (theorem_at self.now.kernel) result
+            (as_theorem (object_of self.now.kernel cs object)) }
         ensures made { OnOk result (IsNumber object → ⊥) }
-        ensures inside { IfOk result (λ th. th < length self.now.kernel.theorems) }
+        ensures inside { (n : ℕ) → IsIn self.now.kernel n object → IfOk result (λ th. th < length self.now.kernel.theorems) }
     {
         match object {
             Object::Theorem(theorem) => Ok(theorem),

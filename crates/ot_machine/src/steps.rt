@@ -195,8 +195,7 @@ impl Session {
     }
 
     /// The step of an operand of a step, 0 the lowest; the step itself where it has none there.
-    pub(crate) fn operand_of(&self, machine: &Machine, step: StepId, place: usize) -> StepId
-        requires of { IsOf self.now machine.now }
+    pub(crate) fn operand_of(&self, step: StepId, place: usize) -> StepId
         requires inside { step < length self.now.trace }
         ensures operand { origin_of self.now result ≡ operand place (origin_of self.now step) }
         ensures inside { result < length self.now.trace }

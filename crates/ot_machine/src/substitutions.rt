@@ -1,8 +1,9 @@
 //! The maps of a substitution, read from a list of a machine of this session.
-ghost use Rattle.std.specs.Prelude.{◌≡◌, ◌<◌, [], length, IfOk};
+ghost use Rattle.std.specs.Prelude.{◌≡◌, ◌<◌, ℕ, [], length, IfOk};
 ghost use Rattle.ot_kernel.specs.State.{name_at, type_at, variable_at, term_at};
 ghost use Rattle.ot_kernel.specs.Pairs.{type_pairs, term_pairs, AreTypePairs, IsSubstIn};
 ghost use Rattle.ot_logic.specs.Faults.{BadSubst};
+ghost use Rattle.ot_machine.specs.Objects.{Lists};
 ghost use Rattle.ot_machine.specs.Parts.{or_bad};
 ghost use Rattle.ot_machine.specs.Places.{as_type, as_term};
 ghost use Rattle.ot_machine.specs.Substitutions.{type_pair, term_pair, types_onto, terms_onto, maps_of};
@@ -35,8 +36,8 @@ impl Session {
         ensures inside { IfOk result (IsSubstIn self.now.kernel) }
     {
         let (types, terms) = self.two_of(machine, list, ListForm::Substitution)?;
-        let types = self.list_in(machine, types, ListForm::Substitution)?;
-        let terms = self.list_in(machine, terms, ListForm::Substitution)?;
+        let types = self.list_in(types, ListForm::Substitution)?;
+        let terms = self.list_in(terms, ListForm::Substitution)?;
         let types = self.types_onto(alloc, machine, types)?;
         self.terms_onto(alloc, machine, types, terms)
     }
@@ -96,10 +97,10 @@ impl Session {
         ensures name { IfOk result (λ p. p.0 < length self.now.kernel.names) }
         ensures ty { IfOk result (λ p. p.1 < length self.now.kernel.types) }
     {
-        let list = self.list_in(machine, pair, ListForm::Substitution)?;
+        let list = self.list_in(pair, ListForm::Substitution)?;
         let (name, ty) = self.two_of(machine, list, ListForm::Substitution)?;
-        let name = self.name_in(machine, name, ListForm::Substitution)?;
-        let ty = self.type_in(machine, ty)?;
+        let name = self.name_in(name, ListForm::Substitution)?;
+        let ty = self.type_in(ty)?;
         Ok((name, ty))
     }
 
@@ -113,19 +114,18 @@ impl Session {
         ensures ty { IfOk result (λ p. p.0.ty < length self.now.kernel.types) }
         ensures term { IfOk result (λ p. p.1 < length self.now.kernel.terms) }
     {
-        let list = self.list_in(machine, pair, ListForm::Substitution)?;
+        let list = self.list_in(pair, ListForm::Substitution)?;
         let (variable, term) = self.two_of(machine, list, ListForm::Substitution)?;
-        let variable = self.variable_in(machine, variable, ListForm::Substitution)?;
-        let term = self.term_in(machine, term)?;
+        let variable = self.variable_in(variable, ListForm::Substitution)?;
+        let term = self.term_in(term)?;
         Ok((variable, term))
     }
 
     /// An object that has to be a type.
-    fn type_in(&self, machine: &Machine, object: Object) -> Result<TypeId, Fault>
-        requires { IsIn self.now.kernel (length machine.now.cells.items) object }
-        ensures read { Makes self.now.kernel (type_at self.now.kernel) result
-            (or_bad BadSubst (as_type (object_of self.now.kernel (lists_of self.now machine.now) object))) }
-        ensures inside { IfOk result (λ t. t < length self.now.kernel.types) }
+    fn type_in(&self, object: Object) -> Result<TypeId, Fault>
+        ensures read { (cs : Lists) → Makes self.now.kernel (type_at self.now.kernel) result
+            (or_bad BadSubst (as_type (object_of self.now.kernel cs object))) }
+        ensures inside { (n : ℕ) → IsIn self.now.kernel n object → IfOk result (λ t. t < length self.now.kernel.types) }
     {
         match object {
             Object::Type(ty) => Ok(ty),
@@ -134,11 +134,10 @@ impl Session {
     }
 
     /// An object that has to be a term.
-    fn term_in(&self, machine: &Machine, object: Object) -> Result<TermId, Fault>
-        requires { IsIn self.now.kernel (length machine.now.cells.items) object }
-        ensures read { Makes self.now.kernel (term_at self.now.kernel) result
-            (or_bad BadSubst (as_term (object_of self.now.kernel (lists_of self.now machine.now) object))) }
-        ensures inside { IfOk result (λ t. t < length self.now.kernel.terms) }
+    fn term_in(&self, object: Object) -> Result<TermId, Fault>
+        ensures read { (cs : Lists) → Makes self.now.kernel (term_at self.now.kernel) result
+            (or_bad BadSubst (as_term (object_of self.now.kernel cs object))) }
+        ensures inside { (n : ℕ) → IsIn self.now.kernel n object → IfOk result (λ t. t < length self.now.kernel.terms) }
     {
         match object {
             Object::Term(term) => Ok(term),

@@ -10,7 +10,7 @@ ghost use Rattle.ot_kernel.specs.State.{name_at};
 ghost use Rattle.ot_trace.specs.Origins.{elements, operand, constant_origin, make_two, renamed_first, renamed_pairs};
 ghost use Rattle.ot_trace.specs.Trace.{origin_at};
 ghost use Rattle.ot_machine.specs.Contexts.{context_of, IsContextOf};
-ghost use Rattle.ot_machine.specs.Meaning.{origin_of, IsOf, Traces};
+ghost use Rattle.ot_machine.specs.Meaning.{origin_of, IsOf, IsRun, Traces};
 ghost use Rattle.ot_machine.specs.Stays.{MakesStep};
 ghost use Rattle.ot_machine.specs.RenamedLists.{cons_numbers, list_onto, read_by, BeginsWith};
 
@@ -121,7 +121,7 @@ impl Session {
             (renamed_first (read_by self.old context.now) (origin_of self.old pair))
             self.old self.new machine.now }
     {
-        match self.begin_of(machine, pair) {
+        match self.begin_of(pair) {
             Some(name) => {
                 let named = self.constant_named(context, name);
                 self.begun_with(machine, pair, named)
@@ -131,8 +131,8 @@ impl Session {
     }
 
     /// The name that a list begins with.
-    fn begin_of(&self, machine: &Machine, pair: StepId) -> Option<NameId>
-        requires of { IsOf self.now machine.now }
+    fn begin_of(&self, pair: StepId) -> Option<NameId>
+        requires run { IsRun self.now }
         requires inside { pair < length self.now.trace }
         ensures some { IfSome result (λ n. BeginsWith (origin_at self.now.trace pair) n) }
         ensures name { IfSome result (λ n. n < length self.now.kernel.names) }

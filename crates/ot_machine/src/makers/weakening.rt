@@ -97,9 +97,9 @@ impl Session {
         let mut weaker = given;
         let mut rest = list_step;
         for hyp in hyps {
-            let step = self.operand_of(machine, rest, 0);
+            let step = self.operand_of(rest, 0);
             weaker = self.with_hypothesis(machine, weaker, *hyp, step)?;
-            rest = self.operand_of(machine, rest, 1);
+            rest = self.operand_of(rest, 1);
         }
         Ok(weaker)
     }

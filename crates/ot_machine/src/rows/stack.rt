@@ -66,8 +66,8 @@ pub fn hd_tl(session: &mut Session, machine: &mut Machine) -> Result<(), Fault>
     let Some((head, tail)) = session.first(machine, list) else {
         return Err(Fault::EmptyList);
     };
-    let first = session.operand_of(machine, step, 0);
-    let rest = session.operand_of(machine, step, 1);
+    let first = session.operand_of(step, 0);
+    let rest = session.operand_of(step, 1);
     // The stack grows before it changes.
     session.push(machine, Object::List(tail), Some(rest))?;
     session.exchange(

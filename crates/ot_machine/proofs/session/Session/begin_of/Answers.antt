@@ -41,7 +41,7 @@ returns-in-Name-clause-name c =
     let inside = All-head (λ i. i < c.args.pair) c.index-operands-0.result _ below in
     begin-inside ts c.args.pair c.step.result.now c.step.ensures.origin c.index-operands-0.result _ are
     c.step-2.result.now c.step-2.ensures.origin (length c.args.self.now.kernel.names) c.in-Name.name
-    c.requires.of.run.named (omega (arith, inside, c.requires.inside)) c.in-Name.is
+    c.requires.run.named (omega (arith, inside, c.requires.inside)) c.in-Name.is
 
 pub returns-in_default-clause-none : goal.returns-in_default-clause-none
 returns-in_default-clause-none c =

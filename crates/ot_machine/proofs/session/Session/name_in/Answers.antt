@@ -1,5 +1,4 @@
 use Rattle.std.proofs.Common.{ap}
-use Rattle.ot_machine.specs.Meaning.{lists_of}
 use Rattle.ot_machine.specs.Parts.{or_bad, bad_list}
 use Rattle.ot_machine.proofs.Elements.{name-other}
 use Rattle.ot_machine.proofs.Refusals.{refuses-named}
@@ -9,8 +8,8 @@ pub returns-in_default : goal.returns-in_default
 returns-in_default c =
     let k = c.args.self.now.kernel in
     record {
-      read = refuses-named k c.bad.result (bad_list c.args.form) _ c.bad.ensures.named (c.bad.ensures.symbol k)
+      read = λ cs. refuses-named k c.bad.result (bad_list c.args.form) _ c.bad.ensures.named (c.bad.ensures.symbol k)
           (ap (or_bad (bad_list c.args.form))
-          (name-other k (lists_of c.args.self.now c.args.machine.now) c.args.object c.in_default.not-Name));
-      inside = tt;
+          (name-other k cs c.args.object c.in_default.not-Name));
+      inside = λ n h. tt;
     }
