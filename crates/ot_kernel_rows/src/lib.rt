@@ -20,6 +20,8 @@ mod link;
 #[cfg(test)]
 mod matching;
 #[cfg(test)]
+mod operators;
+#[cfg(test)]
 mod pretty;
 #[cfg(test)]
 mod print;

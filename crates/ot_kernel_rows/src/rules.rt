@@ -16,7 +16,7 @@ use std::test::Fail;
 
 /// a = b, of two terms of this type.
 #[tactic(auto, using(std::proofs::lemmas::Option::slice_get_within))]
-fn equated(kernel: &mut Kernel, ty: TypeId, a: TermId, b: TermId) -> Result<TermId, Fail>
+pub(crate) fn equated(kernel: &mut Kernel, ty: TypeId, a: TermId, b: TermId) -> Result<TermId, Fail>
     requires named { 5 ≤ length kernel.old.names }
     requires ty { ty < length kernel.old.types }
     requires a { a < length kernel.old.terms }
@@ -35,7 +35,7 @@ fn equated(kernel: &mut Kernel, ty: TypeId, a: TermId, b: TermId) -> Result<Term
 }
 
 /// A theorem has these hypotheses and this conclusion.
-fn shows(rt: &impl Abort, kernel: &Kernel, th: ThmId, hyps: &[TermId], concl: TermId)
+pub(crate) fn shows(rt: &impl Abort, kernel: &Kernel, th: ThmId, hyps: &[TermId], concl: TermId)
     requires th { th < length kernel.now.theorems }
     requires hyps { All (λ i. i < length kernel.now.terms) hyps.now }
     requires concl { concl < length kernel.now.terms }
@@ -310,7 +310,7 @@ fn check_definitions(rt: &impl Abort, kernel: &mut Kernel) -> Result<(), Fail>
     check_refused_definitions(rt, kernel, k, a)
 }
 
-fn con(name: NameId) -> Symbol {
+pub(crate) fn con(name: NameId) -> Symbol {
     Symbol {
         kind: SymbolKind::Con,
         name,
