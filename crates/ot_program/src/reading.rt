@@ -138,23 +138,21 @@ fn read_text<F: Files>(
     ensures files { ClosesFiles F.folder F.faults F.misses F.left files.old files.new }
     ensures at { F.at files.new ≡ path_asked (F.folder files.old) text.now }
 {
-    match bytes_of(alloc, text, files) {
-        Ok(bytes) => match read_bytes(alloc, session, run, &bytes) {
-            Ok(sequents) => Ok(LinesRead { bytes, sequents }),
-            Err(
-                LineRefusal::At {
-                    line,
-                    column,
-                    fault,
-                },
-            ) => Err(ReadingRefusal::At {
+    let bytes = bytes_of(alloc, text, files)?;
+    match read_bytes(alloc, session, run, &bytes) {
+        Ok(sequents) => Ok(LinesRead { bytes, sequents }),
+        Err(
+            LineRefusal::At {
                 line,
                 column,
                 fault,
-            }),
-            Err(LineRefusal::Memory(memory)) => Err(ReadingRefusal::Memory(memory)),
-        },
-        Err(refusal) => Err(refusal),
+            },
+        ) => Err(ReadingRefusal::At {
+            line,
+            column,
+            fault,
+        }),
+        Err(LineRefusal::Memory(memory)) => Err(ReadingRefusal::Memory(memory)),
     }
 }
 
@@ -214,14 +212,8 @@ fn read_bytes(
     ensures refused { IfErr result (IsLineRefusal (lines_read (notation (noted_of session.now run.now)) (lines_of text.now))) }
     ensures first { IfErr result IsLineCause }
 {
-    let theorems = match theorems_of(alloc, &run.exports) {
-        Ok(theorems) => theorems,
-        Err(refused) => return Err(LineRefusal::Memory(refused.into())),
-    };
-    let notation = match run_notation(alloc, session.kernel(), &run.names, &theorems) {
-        Ok(notation) => notation,
-        Err(memory) => return Err(LineRefusal::Memory(memory)),
-    };
+    let theorems = theorems_of(alloc, &run.exports)?;
+    let notation = run_notation(alloc, session.kernel(), &run.names, &theorems)?;
     notation.sound();
     as_the_forms_say();
     read_lines(alloc, &notation, text)

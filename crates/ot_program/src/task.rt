@@ -140,8 +140,6 @@ pub fn read_task(words: &[String]) -> Result<Task<'_>, Usage>
     ensures usage { OnErr result (command_of (texts_of words.now) ≡ None) }
     ensures command { OnOk result (command_of (texts_of words.now) ≢ None) }
 {
-    match Command::read(words) {
-        Ok(command) => Ok(Task::of(command)),
-        Err(usage) => Err(usage),
-    }
+    let command = Command::read(words)?;
+    Ok(Task::of(command))
 }

@@ -23,7 +23,9 @@ use std::alloc::Global;
 
 /// The line for words that are no command.
 pub const USAGE: &[u8] =
-    b"usage: opentheory check|info|link|minimise [--packages DIR] INPUT; info also takes --assumptions --definitions --theorems; opentheory sample [--article] N; opentheory info --uses INPUT; opentheory info --readable INPUT; opentheory read INPUT TEXT; opentheory prove INPUT; opentheory verify LOG; opentheory find PATTERN INPUT\n";
+    b"usage: opentheory check|info|link|minimise [--packages DIR] INPUT; info also takes --assumptions --definitions \
+      --theorems; opentheory sample [--article] N; opentheory info --uses INPUT; opentheory info --readable INPUT; \
+      opentheory read INPUT TEXT; opentheory prove INPUT; opentheory verify LOG; opentheory find PATTERN INPUT\n";
 
 /// The line for an output that failed.
 pub const WRITE_FAULT: &[u8] = b"opentheory: write fault\n";

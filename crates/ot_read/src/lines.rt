@@ -10,7 +10,7 @@ use crate::laws::as_the_forms_say;
 use ot_logic::Memory;
 use ot_parse::{Notation, ReadRefusal, Readable, TextFault, read_sequent};
 use ot_theory::next_line;
-use std::alloc::{AllocFailed, Global};
+use std::alloc::{AllocError, AllocFailed, Global};
 
 /// Why the lines of a text aren't read.
 #[derive(Clone, Copy)]
@@ -23,6 +23,22 @@ pub enum LineRefusal {
     },
     /// Memory ran out.
     Memory(Memory),
+}
+
+impl From<Memory> for LineRefusal {
+    ghost from_gives = { λ _ f. f ≡ OutOfMemory ran_out };
+
+    fn from(memory: Memory) -> LineRefusal {
+        LineRefusal::Memory(memory)
+    }
+}
+
+impl From<AllocError> for LineRefusal {
+    ghost from_gives = { λ _ f. f ≡ OutOfMemory ran_out };
+
+    fn from(refused: AllocError) -> LineRefusal {
+        LineRefusal::Memory(Memory::from(refused))
+    }
 }
 
 impl<T: Drop> From<AllocFailed<T>> for LineRefusal {

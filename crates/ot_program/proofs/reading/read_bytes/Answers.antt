@@ -15,20 +15,20 @@ use Rattle.ot_program.proofs.reading.read_bytes.Goals as goal
 pub run_notation-requires : goal.run_notation-requires
 run_notation-requires c =
     let are : c.deref-3.result.now ≡ map (λ e. e.th) c.args.run.now.exports.items =
-    c.deref-3.ensures.value ∙ c.in-Ok.ensures ∙ ap (map (λ e. e.th)) c.deref.ensures.value in
+    c.deref-3.ensures.value ∙ c.in_ok-theorems.ensures ∙ ap (map (λ e. e.th)) c.deref.ensures.value in
     rw c.kernel.ensures (exported_within c.args.session.now
     c.args.run.now.exports.items c.deref-3.result.now are c.requires.exports)
 
 pub returns-clause-ok : goal.returns-clause-ok
 returns-clause-ok c =
     let are : c.deref-3.result.now ≡ map (λ e. e.th) c.args.run.now.exports.items =
-    c.deref-3.ensures.value ∙ c.in-Ok.ensures ∙ ap (map (λ e. e.th)) c.deref.ensures.value in
+    c.deref-3.ensures.value ∙ c.in_ok-theorems.ensures ∙ ap (map (λ e. e.th)) c.deref.ensures.value in
     let s = c.args.session.now in
     let es = c.args.run.now.exports.items in
     let ls = lines_of c.args.text.now in
     let e = same_lines c.deref-2.result.now s c.kernel.result.now es c.deref-3.result.now c.requires.session
     c.kernel.ensures
-    are c.in-Ok-run_notation.notation c.in-Ok-run_notation.ensures c.sound.ensures c.as_the_forms_say.ensures.lines ls
+    are c.in_ok-notation.notation c.in_ok-notation.ensures c.sound.ensures c.as_the_forms_say.ensures.lines ls
     ∙ ap (λ ns. lines_read (notation (noted_from ns s es)) ls) c.deref-2.ensures.value in
     subst
     (λ (o : Result (List (Sequent Name)) RefusedLine). IfOk c.read_lines.result
@@ -38,18 +38,18 @@ returns-clause-ok c =
 pub returns-clause-stand : goal.returns-clause-stand
 returns-clause-stand c =
     let are : c.deref-3.result.now ≡ map (λ e. e.th) c.args.run.now.exports.items =
-    c.deref-3.ensures.value ∙ c.in-Ok.ensures ∙ ap (map (λ e. e.th)) c.deref.ensures.value in
+    c.deref-3.ensures.value ∙ c.in_ok-theorems.ensures ∙ ap (map (λ e. e.th)) c.deref.ensures.value in
     let s = c.args.session.now in
     let es = c.args.run.now.exports.items in
     let ls = lines_of c.args.text.now in
     let e = same_lines c.deref-2.result.now s c.kernel.result.now es c.deref-3.result.now c.requires.session
     c.kernel.ensures
-    are c.in-Ok-run_notation.notation c.in-Ok-run_notation.ensures c.sound.ensures c.as_the_forms_say.ensures.lines
+    are c.in_ok-notation.notation c.in_ok-notation.ensures c.sound.ensures c.as_the_forms_say.ensures.lines
     ls in
     let stated = notation (noted_from c.deref-2.result.now s es) in
     let stand = all_stand stated ls c.read_lines.result
     (they_stand c.deref-2.result.now s c.kernel.result.now es c.deref-3.result.now c.requires.session c.kernel.ensures
-    are c.in-Ok-run_notation.notation c.in-Ok-run_notation.ensures c.sound.ensures c.as_the_forms_say.ensures.texts
+    are c.in_ok-notation.notation c.in_ok-notation.ensures c.sound.ensures c.as_the_forms_say.ensures.texts
     ls)
     (subst
     (λ (o : Result (List (Sequent Name)) RefusedLine). IfOk c.read_lines.result
@@ -63,13 +63,13 @@ returns-clause-stand c =
 pub returns-clause-refused : goal.returns-clause-refused
 returns-clause-refused c =
     let are : c.deref-3.result.now ≡ map (λ e. e.th) c.args.run.now.exports.items =
-    c.deref-3.ensures.value ∙ c.in-Ok.ensures ∙ ap (map (λ e. e.th)) c.deref.ensures.value in
+    c.deref-3.ensures.value ∙ c.in_ok-theorems.ensures ∙ ap (map (λ e. e.th)) c.deref.ensures.value in
     let s = c.args.session.now in
     let es = c.args.run.now.exports.items in
     let ls = lines_of c.args.text.now in
     let e = same_lines c.deref-2.result.now s c.kernel.result.now es c.deref-3.result.now c.requires.session
     c.kernel.ensures
-    are c.in-Ok-run_notation.notation c.in-Ok-run_notation.ensures c.sound.ensures c.as_the_forms_say.ensures.lines ls
+    are c.in_ok-notation.notation c.in_ok-notation.ensures c.sound.ensures c.as_the_forms_say.ensures.lines ls
     ∙ ap (λ ns. lines_read (notation (noted_from ns s es)) ls) c.deref-2.ensures.value in
     subst (λ (o : Result (List (Sequent Name)) RefusedLine). IfErr c.read_lines.result (IsLineRefusal o))
     e c.read_lines.ensures.refused
@@ -77,15 +77,15 @@ returns-clause-refused c =
 pub returns-clause-first : goal.returns-clause-first
 returns-clause-first c =
     let are : c.deref-3.result.now ≡ map (λ e. e.th) c.args.run.now.exports.items =
-    c.deref-3.ensures.value ∙ c.in-Ok.ensures ∙ ap (map (λ e. e.th)) c.deref.ensures.value in
+    c.deref-3.ensures.value ∙ c.in_ok-theorems.ensures ∙ ap (map (λ e. e.th)) c.deref.ensures.value in
     let s = c.args.session.now in
     let es = c.args.run.now.exports.items in
     let ls = lines_of c.args.text.now in
-    let hidden = c.in-Ok-run_notation.notation in
+    let hidden = c.in_ok-notation.notation in
     let e = same_lines c.deref-2.result.now s c.kernel.result.now es c.deref-3.result.now c.requires.session
-    c.kernel.ensures are hidden c.in-Ok-run_notation.ensures c.sound.ensures c.as_the_forms_say.ensures.lines ls in
+    c.kernel.ensures are hidden c.in_ok-notation.ensures c.sound.ensures c.as_the_forms_say.ensures.lines ls in
     line_refused (lines_read (notation (noted_from c.deref-2.result.now s es)) ls) c.read_lines.result
     (they_refuse c.deref-2.result.now s c.kernel.result.now es c.deref-3.result.now c.requires.session c.kernel.ensures
-    are hidden c.in-Ok-run_notation.ensures c.sound.ensures c.as_the_forms_say.ensures.texts ls)
+    are hidden c.in_ok-notation.ensures c.sound.ensures c.as_the_forms_say.ensures.texts ls)
     (subst (λ (o : Result (List (Sequent Name)) RefusedLine). IfErr c.read_lines.result (IsLineRefusal o)) e
     c.read_lines.ensures.refused)
