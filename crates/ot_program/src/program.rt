@@ -204,7 +204,8 @@ fn readable_in<F: Files, S: Source>(
         (CountRose (S.faults input.old) (S.faults input.new))
         (FileFailed (F.at files.new) (F.faults files.old) (F.faults files.new))
         (CountRose (F.misses files.old) (F.misses files.new)) v May))) }
-    ensures at { IfOk result (λ _. (command (ShowReadable packages.now path.now)).Last (F.folder files.old) (F.at files.new)) }
+    ensures at { IfOk result
+        (λ _. (command (ShowReadable packages.now path.now)).Last (F.folder files.old) (F.at files.new)) }
     ensures files { ClosesFiles F.folder F.faults F.misses F.left files.old files.new }
     ensures source { KeepsSource S.folder S.faults S.misses S.at input.old input.new }
     ensures other { (command (ShowReadable packages.now path.now)).Leaves files.old files.new input.old input.new }

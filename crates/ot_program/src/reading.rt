@@ -209,7 +209,8 @@ fn read_bytes(
         ≡ Ok (map sequent_of read.items)) }
     ensures stand { IfOk result (λ read. StandFor (notation (noted_of session.now run.now))
         (lines_of text.now) (map sequent_of read.items)) }
-    ensures refused { IfErr result (IsLineRefusal (lines_read (notation (noted_of session.now run.now)) (lines_of text.now))) }
+    ensures refused { IfErr result
+        (IsLineRefusal (lines_read (notation (noted_of session.now run.now)) (lines_of text.now))) }
     ensures first { IfErr result IsLineCause }
 {
     let theorems = theorems_of(alloc, &run.exports)?;
