@@ -5,12 +5,14 @@ use ot_theory::parse;
 /// Theory files, with the blocks that each of their blocks imports and the order in which they run.
 const PLANS: &[(&[u8], &[&[usize]], &[usize])] = &[
     (
-        b"name: t\none {\n  article: \"one.art\"\n}\ntwo {\n  import: one\n  article: \"two.art\"\n}\nmain {\n  import: two\n}\n",
+        b"name: t\none {\n  article: \"one.art\"\n}\ntwo {\n  import: one\n  article: \"two.art\"\n}\n\
+          main {\n  import: two\n}\n",
         &[&[], &[0], &[1]],
         &[0, 1, 2],
     ),
     (
-        b"name: t\none {\n  article: \"one.art\"\n}\ntwo {\n  article: \"two.art\"\n}\nmain {\n  import: one\n  import: two\n}\n",
+        b"name: t\none {\n  article: \"one.art\"\n}\ntwo {\n  article: \"two.art\"\n}\n\
+          main {\n  import: one\n  import: two\n}\n",
         &[&[], &[], &[0, 1]],
         &[0, 1, 2],
     ),

@@ -74,10 +74,7 @@ fn check_lines<S: Source>(
         };
         assert!(rt; lines.next(source) == Ok(Some(line)));
     }
-    let end = match end {
-        Ok(()) => Ok(None),
-        Err(fault) => Err(fault),
-    };
+    let end = end.map(|()| None);
     assert!(rt; lines.next(source) == end);
     assert!(rt; lines.next(source) == end);
 }
@@ -193,11 +190,7 @@ fn long_text(alloc: Global, front: &[u8], count: usize, back: &[u8]) -> Result<V
 }
 
 fn answer_of(line: Result<Option<Line<'_>>, ScanFault>) -> Answer {
-    match line {
-        Ok(Some(line)) => Ok(Some((line.number, line.text.len()))),
-        Ok(None) => Ok(None),
-        Err(fault) => Err(fault),
-    }
+    Ok(line?.map(|line| (line.number, line.text.len())))
 }
 
 fn check_answers(rt: &impl Abort, source: &mut MemSource, max_bytes: u64, answers: [Answer; 3]) {
@@ -231,11 +224,7 @@ fn check_faults(rt: &impl Abort, source: &mut MemSource) {
         Ok(None),
     ];
     for answer in answers {
-        let wanted = match answer {
-            Ok(Some((number, text))) => Ok(Some(Line { number, text })),
-            Ok(None) => Ok(None),
-            Err(fault) => Err(fault),
-        };
+        let wanted = answer.map(|line| line.map(|(number, text)| Line { number, text }));
         assert!(rt; lines.next(source) == wanted);
     }
 }

@@ -80,7 +80,8 @@ const FILES: &[(
     &[(u64, &'static [u8], &'static [Statement])],
 )] = &[
     (
-        b"name: t\none {\n  article: \"one.art\"\n}\ntwo {\n  import: one\n  article: \"two.art\"\n}\nmain {\n  import: two\n}\n",
+        b"name: t\none {\n  article: \"one.art\"\n}\ntwo {\n  import: one\n  article: \"two.art\"\n}\n\
+          main {\n  import: two\n}\n",
         &[(1, b"name", b"t")],
         &[
             (2, b"one", &[(3, b"article", b"\"one.art\"")]),
@@ -123,7 +124,8 @@ const FILES: &[(
         ],
     ),
     (
-        b"# a theory\r\nname:\t t \r\nversion : 1.0\r\n\r\ndescription:\r\nname: \"x: y\"\r\nmain{\r\n\tchecksum: \r\n  # no statement\r\n import:main\r\n}\r\nimport: a b",
+        b"# a theory\r\nname:\t t \r\nversion : 1.0\r\n\r\ndescription:\r\nname: \"x: y\"\r\nmain{\r\n\
+          \tchecksum: \r\n  # no statement\r\n import:main\r\n}\r\nimport: a b",
         &[
             (2, b"name", b"t"),
             (3, b"version", b"1.0"),
@@ -138,7 +140,8 @@ const FILES: &[(
         )],
     ),
     (
-        b"main \t{\ninterpret: const \"a\" as \"b\"\ninterpret: type \"a\" as \"b\"\ninterpret: const \"b\" as \"a\"\npackage:\n}",
+        b"main \t{\ninterpret: const \"a\" as \"b\"\ninterpret: type \"a\" as \"b\"\ninterpret: const \"b\" as \"a\"\n\
+          package:\n}",
         &[],
         &[(
             1,
