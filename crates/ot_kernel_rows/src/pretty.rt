@@ -120,7 +120,8 @@ fn is_refused(alloc: Global, kernel: &Kernel, th: ThmId, len: usize) -> Result<b
 
 const TEXTS: &[u8] = b"|- ({Data.Bool.T : bool} = ((\\x0 : bool . x0) = (\\x0 : bool . x0)))
 |- ({T : bool} = ((\\x0 : bool . x0) = (\\x0 : bool . x0)))
-({\"Data.Bool./\\\\\" : (bool -> (bool -> bool))} (a : bool) (r : bool)) |- ({\"Data.Bool./\\\\\" : (bool -> (bool -> bool))} (a : bool) (r : bool))
+({\"Data.Bool./\\\\\" : (bool -> (bool -> bool))} (a : bool) (r : bool)) \
+|- ({\"Data.Bool./\\\\\" : (bool -> (bool -> bool))} (a : bool) (r : bool))
 ((a : bool) /\\ (r : bool)) |- ((a : bool) /\\ (r : bool))
 ((a : (bool -> (bool -> bool))) (a : bool) (r : bool)) |- ((a : (bool -> (bool -> bool))) (a : bool) (r : bool))
 ((a : (bool -> (bool -> bool))) (a : bool) (r : bool)) |- ((a : (bool -> (bool -> bool))) (a : bool) (r : bool))

@@ -3,7 +3,11 @@ use crate::folder::Entry;
 
 /// What some articles begin with: the term (\x. x) = (\x. x) at bool, stored as 8, and \x. x as 7.
 const EQUATION: &[u8] =
-    b"6\nversion\n\"->\"\ntypeOp\n0\ndef\npop\n\"bool\"\ntypeOp\nnil\nopType\n1\ndef\npop\n0\nref\n1\nref\n1\nref\nnil\ncons\ncons\nopType\n2\ndef\npop\n0\nref\n1\nref\n2\nref\nnil\ncons\ncons\nopType\n3\ndef\npop\n\"=\"\nconst\n4\ndef\npop\n\"A\"\nvarType\n5\ndef\npop\n4\nref\n0\nref\n2\nref\n0\nref\n2\nref\n1\nref\nnil\ncons\ncons\nopType\nnil\ncons\ncons\nopType\nconstTerm\n\"x\"\n1\nref\nvar\n6\ndef\n6\nref\nvarTerm\nabsTerm\n7\ndef\nappTerm\n7\nref\nappTerm\n8\ndef\npop\n";
+    b"6\nversion\n\"->\"\ntypeOp\n0\ndef\npop\n\"bool\"\ntypeOp\nnil\nopType\n1\ndef\npop\n0\nref\n1\nref\n1\nref\n\
+      nil\ncons\ncons\nopType\n2\ndef\npop\n0\nref\n1\nref\n2\nref\nnil\ncons\ncons\nopType\n3\ndef\npop\n\"=\"\n\
+      const\n4\ndef\npop\n\"A\"\nvarType\n5\ndef\npop\n4\nref\n0\nref\n2\nref\n0\nref\n2\nref\n1\nref\nnil\ncons\n\
+      cons\nopType\nnil\ncons\ncons\nopType\nconstTerm\n\"x\"\n1\nref\nvar\n6\ndef\n6\nref\nvarTerm\nabsTerm\n7\ndef\n\
+      appTerm\n7\nref\nappTerm\n8\ndef\npop\n";
 
 const PROVES_IT: &[u8] = b"7\nref\nrefl\nnil\n8\nref\nthm\n";
 
@@ -11,17 +15,26 @@ const TAKES_IT: &[u8] = b"nil\n8\nref\naxiom\nnil\n8\nref\nthm\n";
 
 /// Two variables p and q of type bool, and p = q and q = p, stored as 9 and 10.
 const BOTH_WAYS: &[u8] =
-    b"6\nversion\n\"->\"\ntypeOp\n0\ndef\npop\n\"bool\"\ntypeOp\nnil\nopType\n1\ndef\npop\n0\nref\n1\nref\n1\nref\nnil\ncons\ncons\nopType\n2\ndef\npop\n0\nref\n1\nref\n2\nref\nnil\ncons\ncons\nopType\n3\ndef\npop\n\"=\"\nconst\n4\ndef\npop\n\"A\"\nvarType\n5\ndef\npop\n\"p\"\n1\nref\nvar\nvarTerm\n6\ndef\npop\n\"q\"\n1\nref\nvar\nvarTerm\n7\ndef\npop\n4\nref\n3\nref\nconstTerm\n8\ndef\npop\n8\nref\n6\nref\nappTerm\n7\nref\nappTerm\n9\ndef\npop\n8\nref\n7\nref\nappTerm\n6\nref\nappTerm\n10\ndef\npop\n";
+    b"6\nversion\n\"->\"\ntypeOp\n0\ndef\npop\n\"bool\"\ntypeOp\nnil\nopType\n1\ndef\npop\n0\nref\n1\nref\n1\nref\n\
+      nil\ncons\ncons\nopType\n2\ndef\npop\n0\nref\n1\nref\n2\nref\nnil\ncons\ncons\nopType\n3\ndef\npop\n\"=\"\n\
+      const\n4\ndef\npop\n\"A\"\nvarType\n5\ndef\npop\n\"p\"\n1\nref\nvar\nvarTerm\n6\ndef\npop\n\"q\"\n1\nref\nvar\n\
+      varTerm\n7\ndef\npop\n4\nref\n3\nref\nconstTerm\n8\ndef\npop\n8\nref\n6\nref\nappTerm\n7\nref\nappTerm\n9\ndef\n\
+      pop\n8\nref\n7\nref\nappTerm\n6\nref\nappTerm\n10\ndef\npop\n";
 
 /// A constant "Y" between p and q of type bool, and its symmetry.
 const SYMMETRY: &[u8] =
-    b"6\nversion\n\"->\"\ntypeOp\n0\ndef\npop\n\"bool\"\ntypeOp\nnil\nopType\n1\ndef\npop\n0\nref\n1\nref\n1\nref\nnil\ncons\ncons\nopType\n2\ndef\npop\n0\nref\n1\nref\n2\nref\nnil\ncons\ncons\nopType\n3\ndef\npop\n\"=\"\nconst\n4\ndef\npop\n\"A\"\nvarType\n5\ndef\npop\n\"p\"\n1\nref\nvar\nvarTerm\n6\ndef\npop\n\"q\"\n1\nref\nvar\nvarTerm\n7\ndef\npop\n\"Y\"\nconst\n3\nref\nconstTerm\n6\nref\nappTerm\n7\nref\nappTerm\n8\ndef\npop\nnil\n8\nref\naxiom\nsym\npop\nnil\n8\nref\naxiom\nnil\n8\nref\nthm\n";
+    b"6\nversion\n\"->\"\ntypeOp\n0\ndef\npop\n\"bool\"\ntypeOp\nnil\nopType\n1\ndef\npop\n0\nref\n1\nref\n1\nref\n\
+      nil\ncons\ncons\nopType\n2\ndef\npop\n0\nref\n1\nref\n2\nref\nnil\ncons\ncons\nopType\n3\ndef\npop\n\"=\"\n\
+      const\n4\ndef\npop\n\"A\"\nvarType\n5\ndef\npop\n\"p\"\n1\nref\nvar\nvarTerm\n6\ndef\npop\n\"q\"\n1\nref\nvar\n\
+      varTerm\n7\ndef\npop\n\"Y\"\nconst\n3\nref\nconstTerm\n6\nref\nappTerm\n7\nref\nappTerm\n8\ndef\npop\nnil\n8\n\
+      ref\naxiom\nsym\npop\nnil\n8\nref\naxiom\nnil\n8\nref\nthm\n";
 
 /// `one` proves what `two` takes; `two` imports it, or doesn't.
 pub(crate) const IMPORTS: [Entry; 3] = [
     (
         "t.thy",
-        b"name: t\none {\n  article: \"one.art\"\n}\ntwo {\n  import: one\n  article: \"two.art\"\n}\nmain {\n  import: two\n}\n",
+        b"name: t\none {\n  article: \"one.art\"\n}\ntwo {\n  import: one\n  article: \"two.art\"\n}\n\
+          main {\n  import: two\n}\n",
         b"",
     ),
     ("one.art", EQUATION, PROVES_IT),
@@ -41,7 +54,8 @@ pub(crate) const IMPORTS_NONE: [Entry; 3] = [
 pub(crate) const IMPORTS_LATE: [Entry; 3] = [
     (
         "t.thy",
-        b"name: t\none {\n  article: \"one.art\"\n}\ntwo {\n  article: \"two.art\"\n}\nmain {\n  import: one\n  import: two\n}\n",
+        b"name: t\none {\n  article: \"one.art\"\n}\ntwo {\n  article: \"two.art\"\n}\n\
+          main {\n  import: one\n  import: two\n}\n",
         b"",
     ),
     ("one.art", EQUATION, PROVES_IT),
@@ -51,7 +65,8 @@ pub(crate) const IMPORTS_LATE: [Entry; 3] = [
 pub(crate) const ASSUMES: [Entry; 3] = [
     (
         "t.thy",
-        b"name: t\none {\n  article: \"one.art\"\n}\ntwo {\n  import: one\n  article: \"two.art\"\n}\nmain {\n  import: two\n}\n",
+        b"name: t\none {\n  article: \"one.art\"\n}\ntwo {\n  import: one\n  article: \"two.art\"\n}\n\
+          main {\n  import: two\n}\n",
         b"",
     ),
     (
