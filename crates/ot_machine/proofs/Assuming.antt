@@ -19,52 +19,51 @@ use Rattle.ot_trace.specs.declared.trace.StepId.{StepId}
 use Rattle.ot_machine.specs.States.{RunState}
 use Rattle.ot_machine.specs.Rows.{given_as, theorem_entry}
 use Rattle.ot_machine.specs.Assumptions.{assumed_new}
-use Rattle.ot_machine.specs.declared.machine.Machine.{Machine}
 use Rattle.ot_machine.specs.declared.session.Session.{Session}
 use Rattle.ot_machine.specs.Contexts.{given_of}
-use Rattle.ot_machine.specs.Meaning.{origin_of, givens_of, run_of, IsRun, IsOf}
+use Rattle.ot_machine.specs.Meaning.{origin_of, givens_of, run_of, IsRun}
 use Rattle.ot_machine.proofs.Kept.{origin-kept, givens-kept}
 use Rattle.ot_machine.proofs.Stepped.{push-inside, push-length, givens-push, with_steps}
-use Rattle.ot_machine.proofs.Stepped.{steps-grow, of-with, definitions-same}
+use Rattle.ot_machine.proofs.Stepped.{steps-grow, is_run-with, definitions-same}
 use Rattle.ot_machine.proofs.Taken.{stated, once, as-once}
 use Rattle.ot_machine.proofs.Tops.{same-ok}
 use Rattle.ot_logic.proofs.Results.{bind-ok}
 
-module _ (s : Session) (l : kernel.State) (a d : Vec StepId Global) (m : Machine) (h : IsOf s m)
+module _ (s : Session) (l : kernel.State) (a d : Vec StepId Global) (h : IsRun s)
     (kept : kernel.Keeps s.kernel l) where
   abbrev later : Session
-  later = with_steps s l a d m h kept
+  later = with_steps s l a d h kept
 
   -- an assumption more
   module _ (q : Sequent Name) (j : ℕ) (inside : j < length s.trace)
       (more : l.assumptions ≡ s.kernel.assumptions ++ q ∷ []) (same : l.definitions ≡ s.kernel.definitions)
       (ai : a.items ≡ s.assumption_steps.items ++ j ∷ []) (di : d.items ≡ s.definition_steps.items) where
-    pub assumed-of : IsOf later m
-    assumed-of =
-        of-with s l a d m h kept
-        (push-inside (length s.trace) s.assumption_steps.items a.items j ai inside h.run.assumptions)
+    pub assumed-is_run : IsRun later
+    assumed-is_run =
+        is_run-with s l a d h kept
+        (push-inside (length s.trace) s.assumption_steps.items a.items j ai inside h.assumptions)
         (push-length s.assumption_steps.items a.items j s.kernel.assumptions l.assumptions q ai more
-        h.run.each_assumption)
-        (subst (All (λ i. i < length s.trace)) (sym di) h.run.definitions)
-        (ap length di ∙ h.run.each_definition ∙ ap length (sym same))
+        h.each_assumption)
+        (subst (All (λ i. i < length s.trace)) (sym di) h.definitions)
+        (ap length di ∙ h.each_definition ∙ ap length (sym same))
 
     assumed-run : run_of later
         ≡ (let r = run_of s in
         record r { assumptions = r.assumptions ++ record { sequent = q; origin = origin_of s j } ∷ [] })
     assumed-run =
         let t = later in
-        let old = givens-kept s t h.run (steps-grow s l a d m h kept) s.kernel.assumptions s.assumption_steps.items
-        h.run.assumptions in
-        let new = origin-kept s t h.run (steps-grow s l a d m h kept) j inside in
+        let old = givens-kept s t h (steps-grow s l a d h kept) s.kernel.assumptions s.assumption_steps.items
+        h.assumptions in
+        let new = origin-kept s t h (steps-grow s l a d h kept) j inside in
         let all = (λ k. givens_of t (more k) (ai k)) ∙ givens-push t s.kernel.assumptions s.assumption_steps.items q j
-        h.run.each_assumption ∙ (λ k. old k ++ record { sequent = q; origin = new k } ∷ []) in
-        λ i. record { assumptions = all i; definitions = definitions-same s l a d m h kept same di i }
+        h.each_assumption ∙ (λ k. old k ++ record { sequent = q; origin = new k } ∷ []) in
+        λ i. record { assumptions = all i; definitions = definitions-same s l a d h kept same di i }
 
     pub assumed-made : (hyps : List (Tm Name)) (p : Tm Name) (th : ℕ) → axiom_rule hyps p ≡ Ok q
         → kernel.theorem_at l th ≡ q → assumed_new hyps p (origin_of s j) (run_of s)
         ≡ Ok (theorem_entry (given_of later (record { th = th; step = j })), run_of later)
     assumed-made hyps p th rule is =
-        let new = origin-kept s later h.run (steps-grow s l a d m h kept) j inside in
+        let new = origin-kept s later h (steps-grow s l a d h kept) j inside in
         ap (λ r. r
         >>= λ q. Ok (
           theorem_entry (record { sequent = q; origin = origin_of s j }),

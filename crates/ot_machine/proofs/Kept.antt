@@ -35,6 +35,7 @@ use Rattle.ot_machine.specs.Meaning.{origin_of, origin_or, AreNamesBelow, AreAll
 use Rattle.ot_kernel.proofs.Placed.{places-later}
 use Rattle.ot_machine.specs.Meaning.{IsRun, entry_of, dictionary_of, export_of, exported_by, version_of, lists_of}
 use Rattle.ot_machine.specs.Meaning.{article_of, HasStep, IsEntryIn, IsExportIn, IsOf, Grows, Leaves, Traces}
+use Rattle.ot_machine.specs.Stays.{Stays}
 
 -- ---- kernels that grow
 pub keeps-same : (k : kernel.State) → kernel.Keeps k k
@@ -303,19 +304,41 @@ with_kernel s k = record s { kernel = k }
 kernel-grows : (s : Session) (l : kernel.State) → kernel.Keeps s.kernel l → Grows s (with_kernel s l)
 kernel-grows s l kept = record { kernel = kept; trace = Extends-refl _ }
 
+module _ (s : Session) (l : kernel.State) (h : IsRun s) (kept : kernel.Keeps s.kernel l)
+    (same : kernel.SameBasis s.kernel l) where
+  kernel-run : IsRun (with_kernel s l)
+  kernel-run = record {
+    named = λ i o p. named-more (length s.kernel.names) (length l.names) kept.names.longer
+        (slice_index_or s.trace i o) (h.named i o p);
+    assumptions = h.assumptions;
+    each_assumption = h.each_assumption ∙ ap length (sym same.assumptions);
+    definitions = h.definitions;
+    each_definition = h.each_definition ∙ ap length (sym same.definitions);
+  }
+
+  -- the run stands for what it stood for
+  pub kernel-stays : Stays s (with_kernel s l)
+  kernel-stays =
+      let t = with_kernel s l in
+      let grown = kernel-grows s l kept in
+      record {
+        grown = grown;
+        run = λ i. record {
+          assumptions =
+              (ap (λ qs. givens_of t qs s.assumption_steps.items) same.assumptions
+              ∙ givens-kept s t h grown s.kernel.assumptions s.assumption_steps.items h.assumptions) i;
+          definitions =
+              (ap (λ ds. made_of t ds s.definition_steps.items) same.definitions
+              ∙ made-kept s t h grown s.kernel.definitions s.definition_steps.items h.definitions) i;
+        };
+        is_run = kernel-run;
+      }
+
 pub leaves : (s : Session) (l : kernel.State) (m : Machine) → IsOf s m → kernel.Keeps s.kernel l
     → kernel.SameBasis s.kernel l → Leaves s (with_kernel s l) m
 leaves s l m h kept same =
     let t = with_kernel s l in
     let grown = kernel-grows s l kept in
-    let run : IsRun t = record {
-      named = λ i o p. named-more (length s.kernel.names) (length l.names) kept.names.longer
-          (slice_index_or s.trace i o) (h.run.named i o p);
-      assumptions = h.run.assumptions;
-      each_assumption = h.run.each_assumption ∙ ap length (sym same.assumptions);
-      definitions = h.run.definitions;
-      each_definition = h.run.each_definition ∙ ap length (sym same.definitions);
-    } in
     record {
       machine =
           record {
@@ -323,16 +346,9 @@ leaves s l m h kept same =
             trace = refl;
             article = article-kept s t m h grown;
             lists = lists s t m h grown;
-            of = of-kept s t m h grown run;
+            of = of-kept s t m h grown (kernel-run s l h.run kept same);
           };
-      run = λ i. record {
-        assumptions =
-            (ap (λ qs. givens_of t qs s.assumption_steps.items) same.assumptions
-            ∙ givens-kept s t h.run grown s.kernel.assumptions s.assumption_steps.items h.run.assumptions) i;
-        definitions =
-            (ap (λ ds. made_of t ds s.definition_steps.items) same.definitions
-            ∙ made-kept s t h.run grown s.kernel.definitions s.definition_steps.items h.run.definitions) i;
-      };
+      run = (kernel-stays s l h.run kept same).run;
     }
 
 -- ---- the trace alone grew
@@ -350,27 +366,26 @@ added-named n os ps o (inl e) all one = subst (All (AreNamesBelow n)) (sym e) al
 added-named n os ps o (inr e) all one = subst (All (AreNamesBelow n)) (sym e)
     (All-append (AreNamesBelow n) os (o ∷ []) all (All-cons (AreNamesBelow n) o [] one (All-nil (AreNamesBelow n))))
 
-pub traces : (s : Session) (os : List (Origin ℕ)) (m : Machine) → IsOf s m → Extends s.trace os
-    → All (AreNamesBelow (length s.kernel.names)) os → Traces s (with_trace s os) m
-traces s os m h longer named =
+pub traces : (s : Session) (os : List (Origin ℕ)) → IsRun s → Extends s.trace os
+    → All (AreNamesBelow (length s.kernel.names)) os → Traces s (with_trace s os)
+traces s os h longer named =
     let t = with_trace s os in
     let grown : Grows s t = record { kernel = keeps-same s.kernel; trace = longer } in
     let run : IsRun t = record {
       named = named;
-      assumptions = λ i j p. let x = h.run.assumptions i j p in omega (arith, x, longer.longer);
-      each_assumption = h.run.each_assumption;
-      definitions = λ i j p. let x = h.run.definitions i j p in omega (arith, x, longer.longer);
-      each_definition = h.run.each_definition;
+      assumptions = λ i j p. let x = h.assumptions i j p in omega (arith, x, longer.longer);
+      each_assumption = h.each_assumption;
+      definitions = λ i j p. let x = h.definitions i j p in omega (arith, x, longer.longer);
+      each_definition = h.each_definition;
     } in
     record {
       kernel = refl;
       grown = longer;
-      article = article-kept s t m h grown;
       run = λ i. record {
-        assumptions = givens-kept s t h.run grown s.kernel.assumptions s.assumption_steps.items h.run.assumptions i;
-        definitions = made-kept s t h.run grown s.kernel.definitions s.definition_steps.items h.run.definitions i;
+        assumptions = givens-kept s t h grown s.kernel.assumptions s.assumption_steps.items h.assumptions i;
+        definitions = made-kept s t h grown s.kernel.definitions s.definition_steps.items h.definitions i;
       };
-      of = of-kept s t m h grown run;
+      is_run = run;
     }
 
 -- one growth after another
@@ -380,6 +395,6 @@ grows-on p q = record { kernel = keeps-on p.kernel q.kernel; trace = Extends-tra
 pub trace-same : (os ps : List (Origin ℕ)) → ps ≡ os → Extends os ps
 trace-same os ps e = subst (λ z. Extends os z) (sym e) (Extends-refl os)
 
-pub traces-grow : (s t : Session) (m : Machine) → Traces s t m → Grows s t
-traces-grow s t m traced =
+pub traces-grow : (s t : Session) → Traces s t → Grows s t
+traces-grow s t traced =
     record { kernel = subst (kernel.Keeps s.kernel) (sym traced.kernel) (keeps-same s.kernel); trace = traced.grown }

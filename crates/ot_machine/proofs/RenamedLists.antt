@@ -17,9 +17,8 @@ use Rattle.ot_trace.specs.Trace.{origins_at, IsBelow}
 use Rattle.ot_trace.specs.Trace as trace
 use Rattle.ot_trace.specs.declared.step.Step.{Step}
 use Rattle.ot_trace.specs.declared.step.Step.TheVariants as steps
-use Rattle.ot_machine.specs.declared.machine.Machine.{Machine}
 use Rattle.ot_machine.specs.declared.session.Session.{Session}
-use Rattle.ot_machine.specs.Meaning.{origin_of, AreNamesBelow, IsOf, Traces}
+use Rattle.ot_machine.specs.Meaning.{origin_of, AreNamesBelow, IsRun, Traces}
 use Rattle.ot_machine.specs.RenamedLists.{cons_numbers, list_onto, BeginsWith}
 use Rattle.ot_machine.proofs.Traced.{traced-origin, number-later, origin-number, operands-read}
 
@@ -188,11 +187,11 @@ begun ts (steps.Make words.Cons ops) o os e = by ops refl e
 begun ts s o os e = absurd (cc)
 
 -- ---- over a session that grew
-module _ (s t : Session) (m : Machine) (h : IsOf s m) (traced : Traces s t m) where
+module _ (s t : Session) (h : IsRun s) (traced : Traces s t) where
   pub origins-later : (is : List ℕ) → All (λ i. i < length s.trace) is → map (origin_of t) is ≡ map (origin_of s) is
   origins-later [] inside = refl
   origins-later (j ∷ is) inside =
-      let a = traced-origin s t m h traced j (All-head (λ i. i < length s.trace) j is inside) in
+      let a = traced-origin s t h traced j (All-head (λ i. i < length s.trace) j is inside) in
       let b = origins-later is (All-tail (λ i. i < length s.trace) j is inside) in
       λ i. a i ∷ b i
 
@@ -200,7 +199,7 @@ module _ (s t : Session) (m : Machine) (h : IsOf s m) (traced : Traces s t m) wh
       → map (trace.origin_at t.trace) is ≡ map (trace.origin_at s.trace) is
   numbers-later [] inside = refl
   numbers-later (j ∷ is) inside =
-      let a = number-later s t m traced j (All-head (λ i. i < length s.trace) j is inside) in
+      let a = number-later s t traced j (All-head (λ i. i < length s.trace) j is inside) in
       let b = numbers-later is (All-tail (λ i. i < length s.trace) j is inside) in
       λ i. a i ∷ b i
 
@@ -221,36 +220,36 @@ list-renamed s f list end found read ends =
     ∙ ap (λ ps. list_onto ps (origin_of s end)) (map-map (renamed_first f) (origin_of s) found)
 
 -- made from its end, over names
-pub list-made : (s t : Session) (m : Machine) → Traces s t m → (list end : ℕ) (found : List ℕ)
+pub list-made : (s t : Session) → Traces s t → (list end : ℕ) (found : List ℕ)
     → trace.origin_at t.trace list ≡ list_onto (map (trace.origin_at s.trace) found) (trace.origin_at s.trace end)
     → origin_of t list ≡ list_onto (map (origin_of s) found) (origin_of s end)
-list-made s t m traced list end found made =
+list-made s t traced list end found made =
     let at = trace.origin_at s.trace in
     let g = kernel.name_at s.kernel in
-    origin-number s t m traced list (list_onto (map at found) (at end)) made ∙ onto-read g (map at found) (at end)
+    origin-number s t traced list (list_onto (map at found) (at end)) made ∙ onto-read g (map at found) (at end)
     ∙ ap (λ ps. list_onto ps (origin_of s end)) (map-map (map_origin g) at found)
 
 -- the constants of its elements
-pub constants-made : (s t : Session) (m : Machine) → IsOf s m → Traces s t m
+pub constants-made : (s t : Session) → IsRun s → Traces s t
     → (end : ℕ) (found : List ℕ) (symbols : List (Origin ℕ)) (o : Origin ℕ) → All (λ i. i < length s.trace) found
     → elements (trace.origin_at s.trace end) ≡ []
     → o ≡ list_onto (map (trace.origin_at s.trace) found) (trace.origin_at s.trace end)
     → symbols ≡ map (λ i. constant_origin (operand 0 (trace.origin_at t.trace i))) found
     → symbols ≡ map (λ pair. constant_origin (operand 0 pair)) (elements o)
-constants-made s t m h traced end found symbols o inside ends made are =
+constants-made s t h traced end found symbols o inside ends made are =
     let at = trace.origin_at s.trace in
     let symbol : Origin ℕ → Origin ℕ = λ pair. constant_origin (operand 0 pair) in
     are ∙ sym (map-map symbol (trace.origin_at t.trace) found)
-    ∙ ap (map symbol) (numbers-later s t m h traced found inside ∙ sym (elements-onto (map at found) (at end) ends)
+    ∙ ap (map symbol) (numbers-later s t h traced found inside ∙ sym (elements-onto (map at found) (at end) ends)
     ∙ ap elements (sym made))
 
 -- a list with another name at its begin
-module _ (s t : Session) (m : Machine) (h : IsOf s m) (traced : Traces s t m) (pair n : ℕ)
+module _ (s t : Session) (h : IsRun s) (traced : Traces s t) (pair n : ℕ)
     (inside : pair < length s.trace) (begins : BeginsWith (trace.origin_at s.trace pair) n) (r : Step)
     (get : slice_get t.trace pair ≡ Some (trace.origin_of t.trace r)) where
   numbers-begun : AreBegun t.trace r begins.rest
   numbers-begun = begun t.trace r (Named n) begins.rest
-      (sym (step-at t.trace pair r get) ∙ number-later s t m traced pair inside ∙ begins.is)
+      (sym (step-at t.trace pair r get) ∙ number-later s t traced pair inside ∙ begins.is)
 
   pub begun-some : 0 < length (cons_numbers r)
   begun-some = subst (λ (is : List ℕ). 0 < length is) (sym numbers-begun.are) (omega arith)
@@ -263,8 +262,8 @@ module _ (s t : Session) (m : Machine) (h : IsOf s m) (traced : Traces s t m) (p
       let g = kernel.name_at t.kernel in
       let items : is ≡ begin ∷ b.rest = set_is ∙ ap (λ (js : List ℕ). set js 0 begin) b.are in
       let rest = sym (operands-read g t.trace b.rest) ∙ ap (map_origins g) b.rest_is in
-      let old = ap (map_origin g) (sym begins.is) ∙ ap (map_origin g) (sym (number-later s t m traced pair inside))
-      ∙ traced-origin s t m h traced pair inside in
+      let old = ap (map_origin g) (sym begins.is) ∙ ap (map_origin g) (sym (number-later s t traced pair inside))
+      ∙ traced-origin s t h traced pair inside in
       ap (λ js. Make words.Cons (from_list (map (origin_of t) js))) items
       ∙ (λ i. Make words.Cons (MoreOrigins (e i) (rest i)))
       ∙ ap (renamed_first (λ x. name)) old

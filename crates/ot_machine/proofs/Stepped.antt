@@ -20,14 +20,13 @@ use Rattle.ot_kernel.specs.declared.fault.RuleFault.{RuleFault}
 use Rattle.ot_trace.specs.declared.trace.StepId.{StepId}
 use Rattle.ot_machine.specs.States.{Entry, RunState}
 use Rattle.ot_machine.specs.Rows.{definitions_of, theorem_entries, defined}
-use Rattle.ot_machine.specs.declared.machine.Machine.{Machine}
 use Rattle.ot_machine.specs.declared.session.Session.{Session}
-use Rattle.ot_machine.specs.Meaning.{origin_of, givens_of, made_of, run_of, article_of, IsRun, IsOf, Grows}
+use Rattle.ot_machine.specs.Meaning.{origin_of, givens_of, made_of, run_of, IsRun, Grows}
 use Rattle.ot_machine.specs.Stays.{Stays, GrowsBeside}
 use Rattle.ot_machine.specs.Answers.{Refuses}
 use Rattle.ot_machine.specs.Conversions.{rule_fault}
 use Rattle.ot_machine.proofs.Refusals.{refuses-definition}
-use Rattle.ot_machine.proofs.Kept.{keeps-same, named-more, origin-kept, givens-kept, made-kept, article-kept, of-kept}
+use Rattle.ot_machine.proofs.Kept.{keeps-same, named-more, origin-kept, givens-kept, made-kept}
 
 -- ---- lists of steps
 -- a step more
@@ -86,7 +85,7 @@ abbrev pub defined_then : Session → ℕ → Definition Name → Result (List E
 defined_then s j e = Ok (theorem_entries (origin_of s j) 0 (theorems names e), with_definition s j e)
 
 -- ---- the session
-module _ (s : Session) (l : kernel.State) (a d : Vec StepId Global) (m : Machine) (h : IsOf s m)
+module _ (s : Session) (l : kernel.State) (a d : Vec StepId Global) (h : IsRun s)
     (kept : kernel.Keeps s.kernel l) where
   abbrev pub with_steps : Session
   with_steps = record s { kernel = l; assumption_steps = a; definition_steps = d }
@@ -94,31 +93,28 @@ module _ (s : Session) (l : kernel.State) (a d : Vec StepId Global) (m : Machine
   pub steps-grow : Grows s with_steps
   steps-grow = record { kernel = kept; trace = Extends-refl s.trace }
 
-  article-with : article_of with_steps m ≡ article_of s m
-  article-with = article-kept s with_steps m h steps-grow
-
   -- steps of the trace, as many as there are assumptions and definitions
-  pub of-with : All (λ i. i < length s.trace) a.items → length a.items ≡ length l.assumptions
-      → All (λ i. i < length s.trace) d.items → length d.items ≡ length l.definitions → IsOf with_steps m
-  of-with ai al di dl = of-kept s with_steps m h steps-grow (record {
+  pub is_run-with : All (λ i. i < length s.trace) a.items → length a.items ≡ length l.assumptions
+      → All (λ i. i < length s.trace) d.items → length d.items ≡ length l.definitions → IsRun with_steps
+  is_run-with ai al di dl = record {
     named = λ i o p. named-more (length s.kernel.names) (length l.names) kept.names.longer
-        (slice_index_or s.trace i o) (h.run.named i o p);
+        (slice_index_or s.trace i o) (h.named i o p);
     assumptions = ai;
     each_assumption = al;
     definitions = di;
     each_definition = dl;
-  })
+  }
 
   -- the assumptions that stood
   pub assumptions-same : l.assumptions ≡ s.kernel.assumptions → a.items ≡ s.assumption_steps.items
       → givens_of with_steps l.assumptions a.items ≡ (run_of s).assumptions
   assumptions-same same items = (λ i. givens_of with_steps (same i) (items i))
-      ∙ givens-kept s with_steps h.run steps-grow s.kernel.assumptions s.assumption_steps.items h.run.assumptions
+      ∙ givens-kept s with_steps h steps-grow s.kernel.assumptions s.assumption_steps.items h.assumptions
 
   pub definitions-same : l.definitions ≡ s.kernel.definitions → d.items ≡ s.definition_steps.items
       → made_of with_steps l.definitions d.items ≡ (run_of s).definitions
   definitions-same same items = (λ i. made_of with_steps (same i) (items i))
-      ∙ made-kept s with_steps h.run steps-grow s.kernel.definitions s.definition_steps.items h.run.definitions
+      ∙ made-kept s with_steps h steps-grow s.kernel.definitions s.definition_steps.items h.definitions
 
   -- nothing more
   run-same : kernel.SameBasis s.kernel l → a.items ≡ s.assumption_steps.items → d.items ≡ s.definition_steps.items
@@ -129,47 +125,47 @@ module _ (s : Session) (l : kernel.State) (a d : Vec StepId Global) (m : Machine
         definitions = definitions-same same.definitions di i;
       }
 
-  of-same : kernel.SameBasis s.kernel l → a.items ≡ s.assumption_steps.items → d.items ≡ s.definition_steps.items
-      → IsOf with_steps m
-  of-same same ai di =
-      of-with (subst (All (λ i. i < length s.trace)) (sym ai) h.run.assumptions)
-      (ap length ai ∙ h.run.each_assumption ∙ ap length (sym same.assumptions))
-      (subst (All (λ i. i < length s.trace)) (sym di) h.run.definitions)
-      (ap length di ∙ h.run.each_definition ∙ ap length (sym same.definitions))
+  is_run-same : kernel.SameBasis s.kernel l → a.items ≡ s.assumption_steps.items → d.items ≡ s.definition_steps.items
+      → IsRun with_steps
+  is_run-same same ai di =
+      is_run-with (subst (All (λ i. i < length s.trace)) (sym ai) h.assumptions)
+      (ap length ai ∙ h.each_assumption ∙ ap length (sym same.assumptions))
+      (subst (All (λ i. i < length s.trace)) (sym di) h.definitions)
+      (ap length di ∙ h.each_definition ∙ ap length (sym same.definitions))
 
   -- the run too, where the call was refused
-  pub adds-with : {X E : Type 0} (r : Result X E) → OnErr r (run_of with_steps ≡ run_of s) → IsOf with_steps m
-      → GrowsBeside r s with_steps m
-  adds-with r same of = record { refused = same; grown = steps-grow; article = article-with; of = of }
+  pub adds-with : {X E : Type 0} (r : Result X E) → OnErr r (run_of with_steps ≡ run_of s) → IsRun with_steps
+      → GrowsBeside r s with_steps
+  adds-with r same run = record { refused = same; grown = steps-grow; is_run = run }
 
   pub stays-with : kernel.SameBasis s.kernel l → a.items ≡ s.assumption_steps.items
-      → d.items ≡ s.definition_steps.items → Stays s with_steps m
+      → d.items ≡ s.definition_steps.items → Stays s with_steps
   stays-with same ai di =
-      record { grown = steps-grow; article = article-with; run = run-same same ai di; of = of-same same ai di }
+      record { grown = steps-grow; run = run-same same ai di; is_run = is_run-same same ai di }
 
   -- a definition more
   module _ (c : Definition Name) (j : ℕ) (inside : j < length s.trace)
       (more : l.definitions ≡ s.kernel.definitions ++ c ∷ []) (same : l.assumptions ≡ s.kernel.assumptions)
       (ai : a.items ≡ s.assumption_steps.items) (di : d.items ≡ s.definition_steps.items ++ j ∷ []) where
-    defined-of : IsOf with_steps m
-    defined-of =
-        of-with (subst (All (λ i. i < length s.trace)) (sym ai) h.run.assumptions)
-        (ap length ai ∙ h.run.each_assumption ∙ ap length (sym same))
-        (push-inside (length s.trace) s.definition_steps.items d.items j di inside h.run.definitions)
+    defined-is_run : IsRun with_steps
+    defined-is_run =
+        is_run-with (subst (All (λ i. i < length s.trace)) (sym ai) h.assumptions)
+        (ap length ai ∙ h.each_assumption ∙ ap length (sym same))
+        (push-inside (length s.trace) s.definition_steps.items d.items j di inside h.definitions)
         (push-length s.definition_steps.items d.items j s.kernel.definitions l.definitions c di more
-        h.run.each_definition)
+        h.each_definition)
 
     pub defined-adds : {X E : Type 0} (r : Result X E) → OnErr r (run_of with_steps ≡ run_of s)
-        → GrowsBeside r s with_steps m
-    defined-adds r same = adds-with r same defined-of
+        → GrowsBeside r s with_steps
+    defined-adds r same = adds-with r same defined-is_run
 
     defined-run : run_of with_steps ≡ with_definition s j c
     defined-run =
         let t = with_steps in
-        let old = made-kept s t h.run steps-grow s.kernel.definitions s.definition_steps.items h.run.definitions in
-        let new = origin-kept s t h.run steps-grow j inside in
+        let old = made-kept s t h steps-grow s.kernel.definitions s.definition_steps.items h.definitions in
+        let new = origin-kept s t h steps-grow j inside in
         let all = (λ k. made_of t (more k) (di k)) ∙ made-push t s.kernel.definitions s.definition_steps.items c j
-        h.run.each_definition ∙ (λ k. old k ++ record { definition = c; origin = new k } ∷ []) in
+        h.each_definition ∙ (λ k. old k ++ record { definition = c; origin = new k } ∷ []) in
         λ i. record { assumptions = assumptions-same same ai i; definitions = all i }
 
     -- the kernel's definition is the stated one
@@ -178,7 +174,7 @@ module _ (s : Session) (l : kernel.State) (a d : Vec StepId Global) (m : Machine
         ≡ Ok (theorem_entries (origin_of s j) 0 qs, run_of with_steps)
     defined-is rule qs given are =
         ap (λ dl. rule dl >>= defined_then s j)
-        (definitions_of-made s s.kernel.definitions s.definition_steps.items h.run.each_definition)
+        (definitions_of-made s s.kernel.definitions s.definition_steps.items h.each_definition)
         ∙ ap (λ r. r >>= defined_then s j) given
         ∙ (λ i. Ok (theorem_entries (origin_of s j) 0 (are i), sym defined-run i))
 
@@ -198,8 +194,8 @@ refused-definition s l run rule j e h symbol =
     refuses-definition l e _ (h.0, λ f q. defined-refused s run rule j f (h.1 f q)) symbol
 
 -- over the same kernel
-pub stays-beside : (s : Session) (a d : Vec StepId Global) (m : Machine) → IsOf s m
+pub stays-beside : (s : Session) (a d : Vec StepId Global) → IsRun s
     → a.items ≡ s.assumption_steps.items → d.items ≡ s.definition_steps.items
-    → Stays s (record s { assumption_steps = a; definition_steps = d }) m
-stays-beside s a d m h = stays-with s s.kernel a d m h (keeps-same s.kernel)
+    → Stays s (record s { assumption_steps = a; definition_steps = d })
+stays-beside s a d h = stays-with s s.kernel a d h (keeps-same s.kernel)
     (record { assumptions = refl; definitions = refl })

@@ -1,6 +1,6 @@
 -- What the calls of the trace make.
 use Rattle.std.specs.Prelude.{◌≡◌, ◌<◌, ◌≤◌, ◌⊎◌, ◌++◌, ◌∷◌, [], ℕ, zero, suc, ℤ, pos}
-use Rattle.std.specs.Prelude.{List, length, map, slice_get, Option, Some, None, Ok}
+use Rattle.std.specs.Prelude.{List, length, map, slice_get, Option, Some, None, Result, Ok, Err}
 use Rattle.std.specs.List.{All}
 use Rattle.std.proofs.Common.{refl, sym, ◌∙◌, ap, subst}
 use Rattle.std.proofs.lemmas.Option.{get_or_from_slice_get}
@@ -15,7 +15,7 @@ use Rattle.ot_trace.specs.Trace.{origins_at}
 use Rattle.ot_trace.specs.Trace as trace
 use Rattle.ot_machine.specs.Objects.{Objects}
 use Rattle.ot_machine.specs.States.{Entry}
-use Rattle.ot_machine.specs.Places.{entry_at, top, replaced, origins_of}
+use Rattle.ot_machine.specs.Places.{entry_at, top, pushed, replaced, origins_of}
 use Rattle.ot_machine.specs.Rows.{origin_at}
 use Rattle.ot_machine.specs.declared.object.Object as object
 use Rattle.ot_machine.specs.declared.object.Object.TheVariants as objects
@@ -23,9 +23,10 @@ use Rattle.ot_machine.specs.declared.object.Entry as code_entry
 use Rattle.ot_machine.specs.declared.machine.Machine.{Machine}
 use Rattle.ot_machine.specs.declared.session.Session.{Session}
 use Rattle.ot_machine.specs.Meaning.{object_of, cells_of, origin_of, origin_or, AreNamesBelow, AreAllNamesBelow}
-use Rattle.ot_machine.specs.Meaning.{entry_of, lists_of, article_of, IsNumber, HasStep, IsOf, Traces}
+use Rattle.ot_machine.specs.Meaning.{entry_of, lists_of, article_of, IsNumber, HasStep, IsRun, IsOf, Traces}
+use Rattle.ot_machine.specs.Stays.{ReplacesTop}
 use Rattle.ot_machine.proofs.Tops.{top-one, top-two}
-use Rattle.ot_machine.proofs.Kept.{at-Extends, origin-kept, traces-grow}
+use Rattle.ot_machine.proofs.Kept.{at-Extends, origin-kept, article-kept, of-kept, traces-grow}
 use Rattle.ot_machine.proofs.Kept.{with_trace, added-extends, added-named, traces}
 
 -- the operands of a word have names of the kernel
@@ -44,79 +45,85 @@ operands-read f os [] = refl
 operands-read f os (j ∷ is) = ap (MoreOrigins (map_origin f (trace.origin_at os j))) (operands-read f os is)
 
 -- ---- an origin that was added
-module _ (s : Session) (m : Machine) (o : Origin ℕ) (os : List (Origin ℕ)) where
-  pub traces-added : IsOf s m → AreNamesBelow (length s.kernel.names) o → (os ≡ s.trace) ⊎ (os ≡ s.trace ++ o ∷ [])
-      → Traces s (with_trace s os) m
-  traces-added h named grown = traces s os m h (added-extends s.trace os o grown)
-      (added-named (length s.kernel.names) s.trace os o grown h.run.named named)
+module _ (s : Session) (o : Origin ℕ) (os : List (Origin ℕ)) where
+  pub traces-added : IsRun s → AreNamesBelow (length s.kernel.names) o → (os ≡ s.trace) ⊎ (os ≡ s.trace ++ o ∷ [])
+      → Traces s (with_trace s os)
+  traces-added h named grown = traces s os h (added-extends s.trace os o grown)
+      (added-named (length s.kernel.names) s.trace os o grown h.named named)
 
   pub origin-added : (i : ℕ) → slice_get os i ≡ Some o → origin_of (with_trace s os) i
       ≡ map_origin (kernel.name_at s.kernel) o
   origin-added i e = ap (map_origin (kernel.name_at s.kernel)) (get_or_from_slice_get os i o (Number (pos 0)) e)
 
 -- what a word makes
-module _ (s : Session) (m : Machine) (word : Cmd) (is : List ℕ) (os : List (Origin ℕ)) where
+module _ (s : Session) (word : Cmd) (is : List ℕ) (os : List (Origin ℕ)) where
   abbrev new : Origin ℕ
   new = Make word (origins_at s.trace is)
 
-  pub traces-made : IsOf s m → All (λ i. i < length s.trace) is → (os ≡ s.trace) ⊎ (os ≡ s.trace ++ new ∷ [])
-      → Traces s (with_trace s os) m
+  pub traces-made : IsRun s → All (λ i. i < length s.trace) is → (os ≡ s.trace) ⊎ (os ≡ s.trace ++ new ∷ [])
+      → Traces s (with_trace s os)
   traces-made h inside =
-      traces-added s m new os h (operands-named (length s.kernel.names) s.trace is h.run.named inside)
+      traces-added s new os h (operands-named (length s.kernel.names) s.trace is h.named inside)
 
   pub origin-made : (i : ℕ) → slice_get os i ≡ Some new → origin_of (with_trace s os) i
       ≡ Make word (from_list (map (origin_of s) is))
-  origin-made i e = origin-added s m new os i e ∙ ap (Make word) (operands-read (kernel.name_at s.kernel) s.trace is)
+  origin-made i e = origin-added s new os i e ∙ ap (Make word) (operands-read (kernel.name_at s.kernel) s.trace is)
 
 -- what a word defines
-module _ (s : Session) (m : Machine) (word : Cmd) (is : List ℕ) (os : List (Origin ℕ)) where
+module _ (s : Session) (word : Cmd) (is : List ℕ) (os : List (Origin ℕ)) where
   abbrev defining : Origin ℕ
   defining = Define word (origins_at s.trace is)
 
-  pub traces-defined : IsOf s m → All (λ i. i < length s.trace) is → (os ≡ s.trace) ⊎ (os ≡ s.trace ++ defining ∷ [])
-      → Traces s (with_trace s os) m
+  pub traces-defined : IsRun s → All (λ i. i < length s.trace) is → (os ≡ s.trace) ⊎ (os ≡ s.trace ++ defining ∷ [])
+      → Traces s (with_trace s os)
   traces-defined h inside =
-      traces-added s m defining os h (operands-named (length s.kernel.names) s.trace is h.run.named inside)
+      traces-added s defining os h (operands-named (length s.kernel.names) s.trace is h.named inside)
 
   pub origin-defined : (i : ℕ) → slice_get os i ≡ Some defining → origin_of (with_trace s os) i
       ≡ Define word (from_list (map (origin_of s) is))
-  origin-defined i e = origin-added s m defining os i e
+  origin-defined i e = origin-added s defining os i e
       ∙ ap (Define word) (operands-read (kernel.name_at s.kernel) s.trace is)
 
 -- nothing was added
-pub traces-none : (s : Session) (m : Machine) → IsOf s m → Traces s s m
-traces-none s m h = record { kernel = refl; grown = Extends-refl s.trace; article = refl; run = refl; of = h }
+pub traces-none : (s : Session) → IsRun s → Traces s s
+traces-none s h = record { kernel = refl; grown = Extends-refl s.trace; run = refl; is_run = h }
 
 -- ---- two after one another
-pub traces-on : (s t u : Session) (m : Machine) → Traces s t m → Traces t u m → Traces s u m
-traces-on s t u m p q =
+pub traces-on : (s t u : Session) → Traces s t → Traces t u → Traces s u
+traces-on s t u p q =
     record {
       kernel = q.kernel ∙ p.kernel;
       grown = Extends-trans p.grown q.grown;
-      article = q.article
-          ∙ p.article;
       run = q.run ∙ p.run;
-      of = q.of;
+      is_run = q.is_run;
     }
 
 -- an origin of the trace, after more were added
-pub traced-origin : (s t : Session) (m : Machine) → IsOf s m → Traces s t m → (i : ℕ) → i < length s.trace
+pub traced-origin : (s t : Session) → IsRun s → Traces s t → (i : ℕ) → i < length s.trace
     → origin_of t i ≡ origin_of s i
-traced-origin s t m h traced i lt = origin-kept s t h.run (traces-grow s t m traced) i lt
+traced-origin s t h traced i lt = origin-kept s t h (traces-grow s t traced) i lt
 
 -- over numbers of names
-pub number-later : (s t : Session) (m : Machine) → Traces s t m → (i : ℕ) → i < length s.trace
+pub number-later : (s t : Session) → Traces s t → (i : ℕ) → i < length s.trace
     → trace.origin_at t.trace i ≡ trace.origin_at s.trace i
-number-later s t m traced i lt = at-Extends s.trace t.trace traced.grown (Number (pos 0)) i lt
+number-later s t traced i lt = at-Extends s.trace t.trace traced.grown (Number (pos 0)) i lt
 
 -- by the names of the numbers
-pub origin-number : (s t : Session) (m : Machine) → Traces s t m → (i : ℕ) (o : Origin ℕ) → trace.origin_at t.trace i
+pub origin-number : (s t : Session) → Traces s t → (i : ℕ) (o : Origin ℕ) → trace.origin_at t.trace i
     ≡ o → origin_of t i ≡ map_origin (kernel.name_at s.kernel) o
-origin-number s t m traced i o e = ap (map_origin (kernel.name_at t.kernel)) e
+origin-number s t traced i o e = ap (map_origin (kernel.name_at t.kernel)) e
     ∙ ap (λ k. map_origin (kernel.name_at k) o) traced.kernel
 
+-- ---- what a machine of the session stands for, where the trace alone grew
+module _ (s t : Session) (m : Machine) (h : IsOf s m) (traced : Traces s t) where
+  pub traced-article : article_of t m ≡ article_of s m
+  traced-article = article-kept s t m h (traces-grow s t traced)
+
+  pub traced-of : IsOf t m
+  traced-of = of-kept s t m h (traces-grow s t traced) traced.is_run
+
 -- ---- an object that was made, with its step
-entry-made : (s t : Session) (m : Machine) (o : object.Object) (i : ℕ) (p : Origin Name) → t.kernel ≡ s.kernel
+pub entry-made : (s t : Session) (m : Machine) (o : object.Object) (i : ℕ) (p : Origin Name) → t.kernel ≡ s.kernel
     → origin_of t i ≡ p → entry_of t (lists_of t m) (record { object = o; step = Some i })
     ≡ record { object = object_of s.kernel (lists_of s m) o; origin = p }
 entry-made s t m o i p same is =
@@ -135,7 +142,7 @@ two-origins stack le = let t = top-two (λ e. Unit {0}) stack (λ i e p. tt) le 
 
 -- what a word made, in the place of the top n
 pub article-made : (s t : Session) (m n : Machine) (count : ℕ) (o : object.Object) (i : ℕ) (p q : Origin Name)
-    → Traces s t m → origin_of t i ≡ p → q ≡ p
+    → IsOf s m → Traces s t → origin_of t i ≡ p → q ≡ p
     → article_of t n
     ≡ (let a = article_of t m in
     record a {
@@ -148,9 +155,35 @@ pub article-made : (s t : Session) (m n : Machine) (count : ℕ) (o : object.Obj
       stack = replaced count (record { object = object_of s.kernel (lists_of s m) o; origin = q })
           a.stack;
     })
-article-made s t m n count o i p q traced is same changed =
+article-made s t m n count o i p q h traced is same changed =
     let e = entry-made s t m o i q traced.kernel (is ∙ sym same) in
-    changed ∙ (λ j. let a = traced.article j in record a { stack = replaced count (e j) a.stack })
+    changed ∙ (λ j. let a = traced-article s t m h traced j in record a { stack = replaced count (e j) a.stack })
+
+-- and on top of it
+pub article-pushed : (s t : Session) (m n : Machine) (o : object.Object) (i : ℕ) (p : Origin Name)
+    → IsOf s m → Traces s t → origin_of t i ≡ p
+    → article_of t n
+    ≡ (let a = article_of t m in
+    record a { stack = pushed (entry_of t (lists_of t m) (record { object = o; step = Some i })) a.stack })
+    → article_of t n
+    ≡ (let a = article_of s m in
+    record a { stack = pushed (record { object = object_of s.kernel (lists_of s m) o; origin = p }) a.stack })
+article-pushed s t m n o i p h traced is changed =
+    let e = entry-made s t m o i p traced.kernel is in
+    changed ∙ (λ j. let a = traced-article s t m h traced j in record a { stack = pushed (e j) a.stack })
+
+-- nothing is put on it after a refusal
+pub not-replaced : {E : Type 0} (r : Result (Unit {0}) E) (e : E) → r ≡ Err e → (count : ℕ) (o : object.Object)
+    (p : Origin Name) (s t : Session) (m : Machine) → IsOf s m → Traces s t → ReplacesTop r count o p s m t m
+not-replaced r e is count o p s t m h traced =
+    subst (λ r. ReplacesTop r count o p s m t m) (sym is) (record {
+      ok = tt;
+      err = traced-article s t m h traced;
+      kernel = traced.kernel;
+      run = traced.run;
+      trace = traced.grown;
+      of = traced-of s t m h traced;
+    })
 
 -- ---- the origin at a place of the stack
 is-number : (o : object.Object) → ((k : ℤ) → o ≡ objects.Number k → ⊥) → IsNumber o → ⊥

@@ -14,7 +14,7 @@ use Rattle.ot_logic.proofs.TableLemmas.{Extends-refl}
 use Rattle.ot_interp.specs.Interpretation.{renamed}
 use Rattle.ot_kernel.specs.State as kernel
 use Rattle.ot_kernel.specs.Axioms.{axiom_rule}
-use Rattle.ot_kernel.specs.Defining.{list_definition}
+use Rattle.ot_kernel.specs.Defining.{const_definition, list_definition}
 use Rattle.ot_scan.specs.Words.{WordValue}
 use Rattle.ot_trace.specs.Origins.{Origin, Make, operand}
 use Rattle.ot_machine.specs.declared.fault.Fault as code
@@ -32,7 +32,8 @@ use Rattle.ot_machine.specs.Places.{theorem_on, top, pushed, dropped, replaced, 
 use Rattle.ot_machine.specs.DefinitionLists.{pairs_of}
 use Rattle.ot_machine.specs.Rows.{Row, first_of, hd_tl_row, defined, with_defined}
 use Rattle.ot_machine.specs.Rows.{constant_entry, type_op_entry, constants_entry, type_defining}
-use Rattle.ot_machine.specs.Rows.{list_defining, define_const_list_row, define_type_op_row}
+use Rattle.ot_machine.specs.Rows.{const_defining, list_defining, define_const_row, define_const_list_row}
+use Rattle.ot_machine.specs.Rows.{define_type_op_row}
 use Rattle.ot_machine.specs.Discharge.{element_entries, discharged, axiom_row}
 use Rattle.ot_machine.specs.Version5.{open_theorems, define_type_op_5_row}
 use Rattle.ot_machine.specs.Assumptions.{term_entries, used}
@@ -183,6 +184,16 @@ pub list_stated-same : (s t : Session) (m n : Machine) (c : code_context.Context
 list_stated-same s t m n c is vs th k x a r =
     λ i. defined (λ ds. list_definition names ds (map (kernel.name_at (k i)) is) (map (kernel.variable_at (k i)) vs)
     (kernel.theorem_at (k i) th)) (list_defining (x i) (a i).stack) (r i)
+
+-- the row of a constant, after what it reads
+abbrev pub const_after : State → Tm Name → Name → Result State (Fault Name)
+const_after s t m = defined (λ ds. const_definition names ds m t) (const_defining m s.article.stack) s.run
+    >>= λ made. Ok (with_defined 2 (constant_entry m ∷ []) made s)
+
+pub const-read : (c : Context) (s : State) (t : Tm Name) (n m : Name) → term_on 0 s.article.stack ≡ Ok t
+    → name_on 1 s.article.stack ≡ Ok n → m ≡ renamed names c.interpretation.constants n
+    → define_const_row c s ≡ const_after s t m
+const-read c s t n m p q e = bind-to _ _ t _ p (bind-to _ _ n _ q (λ i. const_after s t (sym e i)))
 
 -- the row of a list of constants, after what it reads
 abbrev pub const_list_after : Context → State → List Name → List (Variable Name) → Sequent Name

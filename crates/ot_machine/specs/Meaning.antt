@@ -250,10 +250,9 @@ pub record Leaves (old new : Session) (m : Machine) : Type 0 where
   pub machine : Carries old new m
   pub run : run_of new ≡ run_of old
 
--- the trace alone grew, and all that the machine and the run stand for stays
-pub record Traces (old new : Session) (m : Machine) : Type 0 where
+-- the trace alone grew, and what the run stands for stays
+pub record Traces (old new : Session) : Type 0 where
   pub kernel : new.kernel ≡ old.kernel
   pub grown : Extends old.trace new.trace
-  pub article : article_of new m ≡ article_of old m
   pub run : run_of new ≡ run_of old
-  pub of : IsOf new m
+  pub is_run : IsRun new

@@ -7,29 +7,26 @@ use Rattle.ot_machine.specs.declared.object.Object.{Object}
 use Rattle.ot_machine.specs.declared.machine.Machine.{Machine}
 use Rattle.ot_machine.specs.declared.session.Session.{Session}
 use Rattle.ot_machine.specs.Meaning.{object_of, lists_of, article_of, origin_of}
-use Rattle.ot_machine.specs.Meaning.{run_of, IsOf, Grows, Traces}
+use Rattle.ot_machine.specs.Meaning.{run_of, IsRun, IsOf, Grows, Traces}
 use Rattle.ot_machine.specs.Places.{replaced}
 
--- a session that grew, where all that the machine and the run stand for stays
-pub record Stays (old new : Session) (m : Machine) : Type 0 where
+-- a session that grew, where what the run stands for stays
+pub record Stays (old new : Session) : Type 0 where
   pub grown : Grows old new
-  pub article : article_of new m ≡ article_of old m
   pub run : run_of new ≡ run_of old
-  pub of : IsOf new m
+  pub is_run : IsRun new
 
--- a session that grew, where all that the machine stands for stays, and after a refusal the run too
-pub record GrowsBeside {X E : Type 0} (result : Result X E) (old new : Session) (m : Machine) : Type 0 where
+-- a session that grew, where after a refusal the run stands for what it stood for
+pub record GrowsBeside {X E : Type 0} (result : Result X E) (old new : Session) : Type 0 where
   pub refused : OnErr result (run_of new ≡ run_of old)
   pub grown : Grows old new
-  pub article : article_of new m ≡ article_of old m
-  pub of : IsOf new m
+  pub is_run : IsRun new
 
 -- the step of an origin, where the trace alone grew
-pub record MakesStep {E : Type 0} (result : Result ℕ E) (origin : Origin Name) (old new : Session) (m : Machine)
-    : Type 0 where
+pub record MakesStep {E : Type 0} (result : Result ℕ E) (origin : Origin Name) (old new : Session) : Type 0 where
   pub made : IfOk result (λ i. origin_of new i ≡ origin)
   pub inside : IfOk result (λ i. i < length new.trace)
-  pub kept : Traces old new m
+  pub kept : Traces old new
 
 -- an object of an origin stands in the place of the top ones
 pub record ReplacesTop {E : Type 0} (result : Result (Unit {0}) E) (count : ℕ) (o : Object) (origin : Origin Name)

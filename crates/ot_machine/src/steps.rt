@@ -10,7 +10,7 @@ ghost use Rattle.ot_trace.specs.Origins.{Number, Named, Make, Define, Outcome, M
 ghost use Rattle.ot_trace.specs.Origins.{NoOrigins, from_list, make_one, operand, symbols};
 ghost use Rattle.ot_trace.specs.Trace.{origin_at as number_origin, origins_at};
 ghost use Rattle.ot_machine.specs.Meaning.{origin_of, origin_or, article_of};
-ghost use Rattle.ot_machine.specs.Meaning.{IsOf, IsIn, IsNumber, HasStep, Traces};
+ghost use Rattle.ot_machine.specs.Meaning.{IsRun, IsOf, IsIn, IsNumber, HasStep, Traces};
 ghost use Rattle.ot_machine.specs.Stays.{MakesStep, ReplacesTop};
 ghost use Rattle.ot_machine.specs.Places.{top, origins_of};
 ghost use Rattle.ot_machine.specs.Rows.{origin_at};
@@ -48,11 +48,11 @@ impl Session {
         requires there { place < vec_len machine.now.stack }
         ensures { MakesStep result
             (origin_at place (article_of self.old machine.now).stack)
-            self.old self.new machine.now }
+            self.old self.new }
     {
         match self.step_on(machine, place) {
             Ok(step) => Ok(step),
-            Err(number) => self.number_step(machine, number),
+            Err(number) => self.number_step(number),
         }
     }
 
@@ -77,54 +77,45 @@ impl Session {
     }
 
     /// The step of a number.
-    fn number_step(&mut self, machine: &Machine, number: i64) -> Result<StepId, Memory>
-        requires of { IsOf self.old machine.now }
-        ensures { MakesStep result (Number number) self.old self.new machine.now }
+    fn number_step(&mut self, number: i64) -> Result<StepId, Memory>
+        requires run { IsRun self.old }
+        ensures { MakesStep result (Number number) self.old self.new }
     {
         Ok(self.trace.add(Step::Number(number))?)
     }
 
     /// The step of a name.
-    pub(crate) fn name_step(&mut self, machine: &Machine, name: NameId) -> Result<StepId, Memory>
-        requires of { IsOf self.old machine.now }
+    pub(crate) fn name_step(&mut self, name: NameId) -> Result<StepId, Memory>
+        requires run { IsRun self.old }
         requires inside { name < length self.old.kernel.names }
         ensures number { IfOk result (λ i. number_origin self.new.trace i ≡ Named name) }
         ensures made { IfOk result (λ i. origin_of self.new i ≡ Named (name_at self.old.kernel name)) }
         ensures inside { IfOk result (λ i. i < length self.new.trace) }
-        ensures kept { Traces self.old self.new machine.now }
+        ensures kept { Traces self.old self.new }
     {
         Ok(self.trace.add(Step::Name(name))?)
     }
 
     /// The step of the theorem at a place of a definition, counted from 1.
-    pub(crate) fn outcome_step(
-        &mut self,
-        machine: &Machine,
-        place: u8,
-        definition: StepId,
-    ) -> Result<StepId, Memory>
-        requires of { IsOf self.old machine.now }
+    pub(crate) fn outcome_step(&mut self, place: u8, definition: StepId) -> Result<StepId, Memory>
+        requires run { IsRun self.old }
         requires inside { definition < length self.old.trace }
-        ensures { MakesStep result (Outcome place (origin_of self.old definition)) self.old self.new machine.now }
+        ensures { MakesStep result (Outcome place (origin_of self.old definition)) self.old self.new }
     {
         Ok(self.trace.add(Step::Outcome(place, definition))?)
     }
 
     /// The step of what a word makes of the objects of these steps, the lowest first.
     #[inline(always)]
-    pub(crate) fn made_of(
-        &mut self,
-        machine: &Machine,
-        word: Cmd,
-        operands: &[StepId],
-    ) -> Result<StepId, Memory>
-        requires of { IsOf self.old machine.now }
+    pub(crate) fn made_of(&mut self, word: Cmd, operands: &[StepId]) -> Result<StepId, Memory>
+        requires run { IsRun self.old }
         requires inside { All (λ i. i < length self.old.trace) operands.now }
-        ensures number { IfOk result (λ i. number_origin self.new.trace i ≡ Make word (origins_at self.old.trace operands.now)) }
+        ensures number { IfOk result
+            (λ i. number_origin self.new.trace i ≡ Make word (origins_at self.old.trace operands.now)) }
         ensures made { IfOk result
             (λ i. origin_of self.new i ≡ Make word (from_list (map (origin_of self.old) operands.now))) }
         ensures inside { IfOk result (λ i. i < length self.new.trace) }
-        ensures kept { Traces self.old self.new machine.now }
+        ensures kept { Traces self.old self.new }
     {
         Ok(self.trace.make(word, operands)?)
     }
@@ -132,42 +123,36 @@ impl Session {
     /// The steps of a name and of the symbol that a word makes of it.
     pub(crate) fn symbol_steps(
         &mut self,
-        machine: &Machine,
         word: Cmd,
         name: NameId,
     ) -> Result<(StepId, StepId), Memory>
-        requires of { IsOf self.old machine.now }
+        requires run { IsRun self.old }
         requires inside { name < length self.old.kernel.names }
         ensures name { IfOk result (λ p. number_origin self.new.trace p.0 ≡ Named name) }
         ensures symbol { IfOk result (λ p. number_origin self.new.trace p.1 ≡ make_one word (Named name)) }
         ensures name_step { IfOk result (λ p. p.0 < length self.new.trace) }
         ensures symbol_step { IfOk result (λ p. p.1 < length self.new.trace) }
-        ensures kept { Traces self.old self.new machine.now }
+        ensures kept { Traces self.old self.new }
     {
-        let operand = self.name_step(machine, name)?;
-        let symbol = self.made_of(machine, word, &[operand])?;
+        let operand = self.name_step(name)?;
+        let symbol = self.made_of(word, &[operand])?;
         Ok((operand, symbol))
     }
 
     /// The step of the list of the symbols that a word makes of these names.
-    pub(crate) fn symbol_list_step(
-        &mut self,
-        machine: &Machine,
-        word: Cmd,
-        names: &[NameId],
-    ) -> Result<StepId, Memory>
-        requires of { IsOf self.old machine.now }
+    pub(crate) fn symbol_list_step(&mut self, word: Cmd, names: &[NameId]) -> Result<StepId, Memory>
+        requires run { IsRun self.old }
         requires inside { All (λ n. n < length self.old.kernel.names) names.now }
         ensures { MakesStep result
             (list_onto (map (λ n. make_one word (Named (name_at self.old.kernel n))) names.now)
             (Make words.Nil NoOrigins))
-            self.old self.new machine.now }
+            self.old self.new }
     {
-        let mut list = self.made_of(machine, Cmd::Nil, &[])?;
+        let mut list = self.made_of(Cmd::Nil, &[])?;
         let mut rest = names;
         'symbols: while let Some((name, front)) = rest.split_last() {
-            let (_, head) = self.symbol_steps(machine, word, *name)?;
-            list = self.made_of(machine, Cmd::Cons, &[head, list])?;
+            let (_, head) = self.symbol_steps(word, *name)?;
+            list = self.made_of(Cmd::Cons, &[head, list])?;
             rest = front;
         }
         Ok(list)
@@ -177,19 +162,18 @@ impl Session {
     /// of the symbols that these name.
     pub(crate) fn defining_step(
         &mut self,
-        machine: &Machine,
         word: Cmd,
         operands: &[StepId],
         defined: &[StepId],
     ) -> Result<StepId, Memory>
-        requires of { IsOf self.old machine.now }
+        requires run { IsRun self.old }
         requires inside { All (λ i. i < length self.old.trace) operands.now }
         requires defined { All (λ i. i < length self.old.trace) defined.now }
         requires symbols { map (number_origin self.old.trace) defined.now
             ≡ symbols (Define word (origins_at self.old.trace operands.now)) }
         ensures { MakesStep result
             (Define word (from_list (map (origin_of self.old) operands.now)))
-            self.old self.new machine.now }
+            self.old self.new }
     {
         Ok(self.trace.define(word, operands, defined)?)
     }
@@ -218,7 +202,7 @@ impl Session {
             self.old machine.old self.new machine.new }
     {
         let operand = self.operand_at(machine, 0)?;
-        let step = self.made_of(machine, word, &[operand])?;
+        let step = self.made_of(word, &[operand])?;
         self.replace(machine, 1, object, Some(step));
         Ok(())
     }
@@ -239,7 +223,7 @@ impl Session {
     {
         let upper = self.operand_at(machine, 0)?;
         let lower = self.operand_at(machine, 1)?;
-        let step = self.made_of(machine, word, &[lower, upper])?;
+        let step = self.made_of(word, &[lower, upper])?;
         self.replace(machine, 2, object, Some(step));
         Ok(())
     }
@@ -299,8 +283,8 @@ impl Session {
         ensures { ReplacesTop result 1 object (Make word (MoreOrigins (Named (name_at self.old.kernel name)) NoOrigins)) self.old machine.old
             self.new machine.new }
     {
-        let operand = self.name_step(machine, name)?;
-        let step = self.made_of(machine, word, &[operand])?;
+        let operand = self.name_step(name)?;
+        let step = self.made_of(word, &[operand])?;
         self.replace(machine, 1, object, Some(step));
         Ok(())
     }

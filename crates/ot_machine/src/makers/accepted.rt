@@ -1,4 +1,4 @@
-//! Definitions that the kernel accepts for a machine of this session. Each has its step from then on; after a refusal
+//! Definitions that the kernel accepts for this session. Each has its step from then on; after a refusal
 //! the run is as before.
 ghost use Rattle.std.specs.Prelude.{◌≡◌, ◌<◌, ◌∷◌, [], length, map, IfOk};
 ghost use Rattle.std.specs.List.{All};
@@ -7,12 +7,11 @@ ghost use Rattle.ot_kernel.specs.State.{name_at, variable_at, term_at, theorem_a
 ghost use Rattle.ot_kernel.specs.Defining.{const_definition, list_definition};
 ghost use Rattle.ot_machine.specs.Rows.{defined, theorem_entries};
 ghost use Rattle.ot_machine.specs.Defining.{closed_defined, stated, AreOperandsIn};
-ghost use Rattle.ot_machine.specs.Meaning.{origin_of, run_of, IsOf};
+ghost use Rattle.ot_machine.specs.Meaning.{origin_of, run_of, IsRun};
 ghost use Rattle.ot_machine.specs.Stays.{GrowsBeside};
 ghost use Rattle.ot_machine.specs.Answers.{Makes};
 
 use crate::fault::Fault;
-use crate::machine::Machine;
 use crate::session::Session;
 use ot_kernel::ThmId;
 use ot_logic::NameId;
@@ -23,12 +22,11 @@ impl Session {
     /// The theorem of a constant that is defined as a term.
     pub(crate) fn accept_constant(
         &mut self,
-        machine: &Machine,
         name: NameId,
         term: TermId,
         definition: StepId,
     ) -> Result<ThmId, Fault>
-        requires of { IsOf self.old machine.now }
+        requires run { IsRun self.old }
         requires name { name < length self.old.kernel.names }
         requires term { term < length self.old.kernel.terms }
         requires definition { definition < length self.old.trace }
@@ -41,7 +39,7 @@ impl Session {
             (defined (λ ds. const_definition names ds (name_at self.old.kernel name) (term_at self.old.kernel term))
             (origin_of self.old definition) (run_of self.old)) }
         ensures theorem { IfOk result (λ th. th < length self.new.kernel.theorems) }
-        ensures adds { GrowsBeside result self.old self.new machine.now }
+        ensures adds { GrowsBeside result self.old self.new }
     {
         self.definition_steps.push(definition)?;
         match self.kernel.define_const(name, term) {
@@ -56,13 +54,12 @@ impl Session {
     /// The theorem of constants that are defined for the variables of a theorem.
     pub(crate) fn accept_list(
         &mut self,
-        machine: &Machine,
         constants: &[NameId],
         variables: &[VarKey],
         premise: ThmId,
         definition: StepId,
     ) -> Result<ThmId, Fault>
-        requires of { IsOf self.old machine.now }
+        requires run { IsRun self.old }
         requires constants { All (λ n. n < length self.old.kernel.names) constants.now }
         requires variables { All (λ v. (v.name < length self.old.kernel.names) × (v.ty < length self.old.kernel.types))
             variables.now }
@@ -79,7 +76,7 @@ impl Session {
             (map (variable_at self.old.kernel) variables.now) (theorem_at self.old.kernel premise))
             (origin_of self.old definition) (run_of self.old)) }
         ensures theorem { IfOk result (λ th. th < length self.new.kernel.theorems) }
-        ensures adds { GrowsBeside result self.old self.new machine.now }
+        ensures adds { GrowsBeside result self.old self.new }
     {
         self.definition_steps.push(definition)?;
         match self.kernel.define_list(constants, variables, premise) {
@@ -94,7 +91,6 @@ impl Session {
     /// The two theorems of a type operator that is taken from a type, and of the constants between the two types.
     pub(crate) fn accept_type(
         &mut self,
-        machine: &Machine,
         name: NameId,
         abs: NameId,
         rep: NameId,
@@ -102,7 +98,7 @@ impl Session {
         premise: ThmId,
         definition: StepId,
     ) -> Result<(ThmId, ThmId), Fault>
-        requires of { IsOf self.old machine.now }
+        requires run { IsRun self.old }
         requires operands { AreOperandsIn self.old.kernel name abs rep variables.now premise }
         requires definition { definition < length self.old.trace }
         ensures made { Makes self.new.kernel
@@ -115,7 +111,7 @@ impl Session {
             (origin_of self.old definition) (run_of self.old)) }
         ensures first { IfOk result (λ p. p.0 < length self.new.kernel.theorems) }
         ensures second { IfOk result (λ p. p.1 < length self.new.kernel.theorems) }
-        ensures adds { GrowsBeside result self.old self.new machine.now }
+        ensures adds { GrowsBeside result self.old self.new }
     {
         self.definition_steps.push(definition)?;
         match self.kernel.define_type(name, abs, rep, variables, premise) {

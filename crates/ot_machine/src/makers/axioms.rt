@@ -51,9 +51,9 @@ impl Session {
             (origins_of (top 2 (article_of self.old machine.now).stack)) (run_of self.old)) }
         ensures theorem { IfOk result (λ g. g.th < length self.new.kernel.theorems) }
         ensures step { IfOk result (λ g. g.step < length self.new.trace) }
-        ensures adds { GrowsBeside result self.old self.new machine.now }
+        ensures adds { GrowsBeside result self.old self.new }
     {
-        let proper = self.is_proper(machine, hyps, concl)?;
+        let proper = self.is_proper(hyps, concl)?;
         if !proper {
             return Err(Fault::NotBool);
         }
@@ -61,20 +61,15 @@ impl Session {
     }
 
     /// Whether these are all propositions.
-    fn is_proper(
-        &mut self,
-        machine: &Machine,
-        hyps: &[TermId],
-        concl: TermId,
-    ) -> Result<bool, Memory>
-        requires of { IsOf self.old machine.now }
+    fn is_proper(&mut self, hyps: &[TermId], concl: TermId) -> Result<bool, Memory>
+        requires run { IsRun self.old }
         requires hyps { All (λ t. t < length self.old.kernel.terms) hyps.now }
         requires concl { concl < length self.old.kernel.terms }
         ensures proper { IfOk result (λ b. let hs = map (term_at self.old.kernel) hyps.now in let p = term_at self.old.kernel
             concl in
             MatchBool b (axiom_rule hs p ≡ Ok (record { hyps = once_each names hs; concl = p }))
             (axiom_rule hs p ≡ Err NotBool)) }
-        ensures stays { Stays self.old self.new machine.now }
+        ensures stays { Stays self.old self.new }
     {
         let proposed = self.kernel.is_proposition(concl)?;
         if !proposed {
@@ -106,10 +101,10 @@ impl Session {
             (origins_of (top 2 (article_of self.old machine.now).stack)) (run_of self.old)) }
         ensures theorem { IfOk result (λ g. g.th < length self.new.kernel.theorems) }
         ensures step { IfOk result (λ g. g.step < length self.new.trace) }
-        ensures adds { GrowsBeside result self.old self.new machine.now }
+        ensures adds { GrowsBeside result self.old self.new }
     {
         if let Some(given) = self.given_for(context, hyps, concl) {
-            return self.weakened(machine, given, hyps, list_step);
+            return self.weakened(given, hyps, list_step);
         }
         if let Some(given) = self.assumed(hyps, concl) {
             return Ok(given);
@@ -166,23 +161,17 @@ impl Session {
             (Make words.Axiom (origins_of (top 2 (article_of self.old machine.now).stack))) (run_of self.old)) }
         ensures theorem { IfOk result (λ g. g.th < length self.new.kernel.theorems) }
         ensures step { IfOk result (λ g. g.step < length self.new.trace) }
-        ensures adds { GrowsBeside result self.old self.new machine.now }
+        ensures adds { GrowsBeside result self.old self.new }
     {
         let upper = self.operand_at(machine, 0)?;
         let lower = self.operand_at(machine, 1)?;
-        let step = self.made_of(machine, Cmd::Axiom, &[lower, upper])?;
-        self.assume_new(machine, hyps, concl, step)
+        let step = self.made_of(Cmd::Axiom, &[lower, upper])?;
+        self.assume_new(hyps, concl, step)
     }
 
     /// The assumption of a sequent that is none of the run yet, with its step.
-    fn assume_new(
-        &mut self,
-        machine: &Machine,
-        hyps: &[TermId],
-        concl: TermId,
-        step: StepId,
-    ) -> Result<Given, Fault>
-        requires of { IsOf self.old machine.now }
+    fn assume_new(&mut self, hyps: &[TermId], concl: TermId, step: StepId) -> Result<Given, Fault>
+        requires run { IsRun self.old }
         requires hyps { All (λ t. t < length self.old.kernel.terms) hyps.now }
         requires concl { concl < length self.old.kernel.terms }
         requires step { step < length self.old.trace }
@@ -197,7 +186,7 @@ impl Session {
             (origin_of self.old step) (run_of self.old)) }
         ensures theorem { IfOk result (λ g. g.th < length self.new.kernel.theorems) }
         ensures step { IfOk result (λ g. g.step < length self.new.trace) }
-        ensures adds { GrowsBeside result self.old self.new machine.now }
+        ensures adds { GrowsBeside result self.old self.new }
     {
         self.assumption_steps.push(step)?;
         match self.kernel.axiom(hyps, concl) {

@@ -13,10 +13,9 @@ ghost use Rattle.ot_view.specs.Nodes.{IsKey};
 ghost use Rattle.ot_machine.specs.Occurrences.{AreOccurrences};
 ghost use Rattle.ot_machine.specs.Version5.{canon_ty, canon_tys, var_origin};
 ghost use Rattle.ot_machine.specs.Canonical.{variable_in, canon_in, binders_at, IsBinderIn, AreTypes, AreKnown};
-ghost use Rattle.ot_machine.specs.Meaning.{origin_of, IsOf, Leaves, Traces};
+ghost use Rattle.ot_machine.specs.Meaning.{origin_of, IsRun, Traces};
 ghost use Rattle.ot_machine.specs.Stays.{Stays, MakesStep};
 
-use crate::machine::Machine;
 use crate::makers::occurrences::{Occurrence, is_free};
 use crate::session::Session;
 use indexmap::IndexMap;
@@ -71,22 +70,22 @@ impl Session {
     #[cycle(type_origin)]
     pub(crate) fn type_origin(
         &mut self,
-        machine: &Machine,
+        alloc: Global,
         id: TypeId,
         known: &mut IndexMap<TypeId, StepId>,
     ) -> Result<StepId, Memory>
-        requires of { IsOf self.old machine.now }
+        requires run { IsRun self.old }
         requires id { id < length self.old.kernel.types }
         requires known { AreTypes self.old known.old.entries }
         ensures made { IfOk result (λ i. origin_of self.new i ≡ canon_ty (type_at self.old.kernel id)) }
         ensures inside { IfOk result (λ i. i < length self.new.trace) }
-        ensures kept { Traces self.old self.new machine.now }
+        ensures kept { Traces self.old self.new }
         ensures known { OnOk result (AreTypes self.new known.new.entries) }
     {
         if let Some(step) = known.get(&id) {
             return Ok(*step);
         }
-        let step = self.type_node_origin(machine, id, known)?;
+        let step = self.type_node_origin(alloc, id, known)?;
         known.insert(id, step)?;
         Ok(step)
     }
@@ -95,30 +94,30 @@ impl Session {
     #[cycle(type_origin)]
     fn type_node_origin(
         &mut self,
-        machine: &Machine,
+        alloc: Global,
         id: TypeId,
         known: &mut IndexMap<TypeId, StepId>,
     ) -> Result<StepId, Memory>
-        requires of { IsOf self.old machine.now }
+        requires run { IsRun self.old }
         requires id { id < length self.old.kernel.types }
         requires known { AreTypes self.old known.old.entries }
         ensures made { IfOk result (λ i. origin_of self.new i ≡ canon_ty (type_at self.old.kernel id)) }
         ensures inside { IfOk result (λ i. i < length self.new.trace) }
-        ensures kept { Traces self.old self.new machine.now }
+        ensures kept { Traces self.old self.new }
         ensures known { OnOk result (AreTypes self.new known.new.entries) }
     {
         match type_node(&self.kernel, id) {
             TypeNode::Var(name) => {
                 let name = *name;
-                let (_, step) = self.symbol_steps(machine, Cmd::VarType, name)?;
+                let (_, step) = self.symbol_steps(Cmd::VarType, name)?;
                 Ok(step)
             }
             TypeNode::Op(name, args) => {
                 let name = *name;
-                let args = Vec::from_slice(machine.alloc, args.as_slice())?;
-                let (_, op) = self.symbol_steps(machine, Cmd::TypeOp, name)?;
-                let list = self.types_origin(machine, &args, id, known)?;
-                Ok(self.made_of(machine, Cmd::OpType, &[op, list])?)
+                let args = Vec::from_slice(alloc, args.as_slice())?;
+                let (_, op) = self.symbol_steps(Cmd::TypeOp, name)?;
+                let list = self.types_origin(alloc, &args, id, known)?;
+                Ok(self.made_of(Cmd::OpType, &[op, list])?)
             }
         }
     }
@@ -127,89 +126,79 @@ impl Session {
     #[cycle(type_origin)]
     fn types_origin(
         &mut self,
-        machine: &Machine,
+        alloc: Global,
         ids: &[TypeId],
         bound: TypeId,
         known: &mut IndexMap<TypeId, StepId>,
     ) -> Result<StepId, Memory>
-        requires of { IsOf self.old machine.now }
+        requires run { IsRun self.old }
         requires bound { bound < length self.old.kernel.types }
         requires below { All (λ i. i < bound) ids.now }
         requires known { AreTypes self.old known.old.entries }
         ensures made { IfOk result (λ i. origin_of self.new i ≡ canon_tys (types_at self.old.kernel ids.now)) }
         ensures inside { IfOk result (λ i. i < length self.new.trace) }
-        ensures kept { Traces self.old self.new machine.now }
+        ensures kept { Traces self.old self.new }
         ensures known { OnOk result (AreTypes self.new known.new.entries) }
     {
-        let mut list = self.made_of(machine, Cmd::Nil, &[])?;
+        let mut list = self.made_of(Cmd::Nil, &[])?;
         let mut rest = ids;
         'types: while let Some((id, front)) = rest.split_last() {
-            let head = self.type_origin(machine, *id, known)?;
-            list = self.made_of(machine, Cmd::Cons, &[head, list])?;
+            let head = self.type_origin(alloc, *id, known)?;
+            list = self.made_of(Cmd::Cons, &[head, list])?;
             rest = front;
         }
         Ok(list)
     }
 
     /// The step of the variable of a name at the type of a step.
-    pub(crate) fn variable_step(
-        &mut self,
-        machine: &Machine,
-        name: NameId,
-        ty: StepId,
-    ) -> Result<StepId, Memory>
-        requires of { IsOf self.old machine.now }
+    pub(crate) fn variable_step(&mut self, name: NameId, ty: StepId) -> Result<StepId, Memory>
+        requires run { IsRun self.old }
         requires name { name < length self.old.kernel.names }
         requires ty { ty < length self.old.trace }
         ensures { MakesStep result
             (make_two words.Var (Named (name_at self.old.kernel name)) (origin_of self.old ty))
-            self.old self.new machine.now }
+            self.old self.new }
     {
-        let spelled = self.name_step(machine, name)?;
-        Ok(self.made_of(machine, Cmd::Var, &[spelled, ty])?)
+        let spelled = self.name_step(name)?;
+        Ok(self.made_of(Cmd::Var, &[spelled, ty])?)
     }
 
     /// The step of the constant of a name at the type of a step.
-    pub(crate) fn constant_step(
-        &mut self,
-        machine: &Machine,
-        name: NameId,
-        ty: StepId,
-    ) -> Result<StepId, Memory>
-        requires of { IsOf self.old machine.now }
+    pub(crate) fn constant_step(&mut self, name: NameId, ty: StepId) -> Result<StepId, Memory>
+        requires run { IsRun self.old }
         requires name { name < length self.old.kernel.names }
         requires ty { ty < length self.old.trace }
         ensures { MakesStep result
             (make_two words.ConstTerm (constant_origin (Named (name_at self.old.kernel name))) (origin_of self.old ty))
-            self.old self.new machine.now }
+            self.old self.new }
     {
-        let (_, constant) = self.symbol_steps(machine, Cmd::Const, name)?;
-        Ok(self.made_of(machine, Cmd::ConstTerm, &[constant, ty])?)
+        let (_, constant) = self.symbol_steps(Cmd::Const, name)?;
+        Ok(self.made_of(Cmd::ConstTerm, &[constant, ty])?)
     }
 
     /// The number of the name that a number spells.
-    fn numeral(&mut self, machine: &Machine, number: usize) -> Result<NameId, Memory>
-        requires { IsOf self.old machine.now }
+    fn numeral(&mut self, alloc: Global, number: usize) -> Result<NameId, Memory>
+        requires run { IsRun self.old }
         ensures made { IfOk result (λ n. name_at self.new.kernel n ≡ decimal number ∷ []) }
         ensures inside { IfOk result (λ n. n < length self.new.kernel.names) }
-        ensures kept { Leaves self.old self.new machine.now }
+        ensures kept { Stays self.old self.new }
     {
-        let text = format!(in machine.alloc; "{number}")?;
-        let name = Name::of_text(machine.alloc, text.as_bytes())?;
+        let text = format!(in alloc; "{number}")?;
+        let name = Name::of_text(alloc, text.as_bytes())?;
         Ok(self.kernel.intern(name)?)
     }
 
     /// The step of the variable that stands for a binder under so many abstractions, at the type of a step.
-    fn binder_step(&mut self, machine: &Machine, depth: usize, ty: StepId) -> Result<StepId, Memory>
-        requires of { IsOf self.old machine.now }
+    fn binder_step(&mut self, alloc: Global, depth: usize, ty: StepId) -> Result<StepId, Memory>
+        requires run { IsRun self.old }
         requires ty { ty < length self.old.trace }
         ensures made { IfOk result
             (λ i. origin_of self.new i ≡ make_two words.Var (Named (decimal depth ∷ [])) (origin_of self.old ty)) }
         ensures inside { IfOk result (λ i. i < length self.new.trace) }
-        ensures kept { Stays self.old self.new machine.now }
+        ensures kept { Stays self.old self.new }
     {
-        let name = self.numeral(machine, depth)?;
-        Ok(self.variable_step(machine, name, ty)?)
+        let name = self.numeral(alloc, depth)?;
+        Ok(self.variable_step(name, ty)?)
     }
 
     /// The step of the variable that stands for the innermost binder of a variable.
@@ -236,26 +225,26 @@ impl Session {
     /// The step of a variable under binders.
     fn variable_origin(
         &mut self,
-        machine: &Machine,
+        alloc: Global,
         binders: &[Binder],
         v: VarKey,
         known: &mut Known,
     ) -> Result<StepId, Memory>
-        requires of { IsOf self.old machine.now }
+        requires run { IsRun self.old }
         requires key { IsKey self.old.kernel v }
         requires binders { All (IsBinderIn self.old) binders.now }
         requires known { AreKnown self.old known.old }
         ensures made { IfOk result (λ i. origin_of self.new i ≡ variable_in (binders_at self.old binders.now)
             (variable_at self.old.kernel v)) }
         ensures inside { IfOk result (λ i. i < length self.new.trace) }
-        ensures kept { Traces self.old self.new machine.now }
+        ensures kept { Traces self.old self.new }
         ensures known { OnOk result (AreKnown self.new known.new) }
     {
         match self.binder_of(binders, &v) {
             Some(step) => Ok(step),
             None => {
-                let ty = self.type_origin(machine, v.ty, &mut known.types)?;
-                Ok(self.variable_step(machine, v.name, ty)?)
+                let ty = self.type_origin(alloc, v.ty, &mut known.types)?;
+                Ok(self.variable_step(v.name, ty)?)
             }
         }
     }
@@ -293,13 +282,13 @@ impl Session {
     #[cycle(term_origin)]
     pub(crate) fn term_origin(
         &mut self,
-        machine: &Machine,
+        alloc: Global,
         depth: usize,
         binders: &[Binder],
         id: TermId,
         known: &mut Known,
     ) -> Result<StepId, Memory>
-        requires of { IsOf self.old machine.now }
+        requires run { IsRun self.old }
         requires id { id < length self.old.kernel.terms }
         requires room { depth + id < 2 ^ 64 }
         requires binders { All (IsBinderIn self.old) binders.now }
@@ -307,15 +296,15 @@ impl Session {
         ensures made { IfOk result (λ i. origin_of self.new i ≡ canon_in depth (binders_at self.old binders.now)
             (named_at self.old.kernel.terms id)) }
         ensures inside { IfOk result (λ i. i < length self.new.trace) }
-        ensures kept { Stays self.old self.new machine.now }
+        ensures kept { Stays self.old self.new }
         ensures known { OnOk result (AreKnown self.new known.new) }
     {
-        let binders = self.binders_within(machine.alloc, binders, id, &mut known.free)?;
+        let binders = self.binders_within(alloc, binders, id, &mut known.free)?;
         let part = Part { id, depth, binders };
         if let Some(step) = known.terms.get(&part) {
             return Ok(*step);
         }
-        let step = self.node_origin(machine, depth, &part.binders, id, known)?;
+        let step = self.node_origin(alloc, depth, &part.binders, id, known)?;
         known.terms.insert(part, step)?;
         Ok(step)
     }
@@ -324,13 +313,13 @@ impl Session {
     #[cycle(term_origin)]
     fn node_origin(
         &mut self,
-        machine: &Machine,
+        alloc: Global,
         depth: usize,
         binders: &[Binder],
         id: TermId,
         known: &mut Known,
     ) -> Result<StepId, Memory>
-        requires of { IsOf self.old machine.now }
+        requires run { IsRun self.old }
         requires id { id < length self.old.kernel.terms }
         requires room { depth + id < 2 ^ 64 }
         requires binders { All (IsBinderIn self.old) binders.now }
@@ -338,29 +327,29 @@ impl Session {
         ensures made { IfOk result (λ i. origin_of self.new i ≡ canon_in depth (binders_at self.old binders.now)
             (named_at self.old.kernel.terms id)) }
         ensures inside { IfOk result (λ i. i < length self.new.trace) }
-        ensures kept { Stays self.old self.new machine.now }
+        ensures kept { Stays self.old self.new }
         ensures known { OnOk result (AreKnown self.new known.new) }
     {
         match *term_node(&self.kernel, id) {
             TermNode::Var(v) => {
-                let variable = self.variable_origin(machine, binders, v, known)?;
-                Ok(self.made_of(machine, Cmd::VarTerm, &[variable])?)
+                let variable = self.variable_origin(alloc, binders, v, known)?;
+                Ok(self.made_of(Cmd::VarTerm, &[variable])?)
             }
             TermNode::Const(name, ty) => {
-                let ty = self.type_origin(machine, ty, &mut known.types)?;
-                Ok(self.constant_step(machine, name, ty)?)
+                let ty = self.type_origin(alloc, ty, &mut known.types)?;
+                Ok(self.constant_step(name, ty)?)
             }
             TermNode::App(f, x) => {
-                let f = self.term_origin(machine, depth, binders, f, known)?;
-                let x = self.term_origin(machine, depth, binders, x, known)?;
-                Ok(self.made_of(machine, Cmd::AppTerm, &[f, x])?)
+                let f = self.term_origin(alloc, depth, binders, f, known)?;
+                let x = self.term_origin(alloc, depth, binders, x, known)?;
+                Ok(self.made_of(Cmd::AppTerm, &[f, x])?)
             }
             TermNode::Abs(v, body) => {
-                let ty = self.type_origin(machine, v.ty, &mut known.types)?;
-                let step = self.binder_step(machine, depth, ty)?;
-                let inner = inside(machine.alloc, Binder { variable: v, step }, binders)?;
-                let body = self.term_origin(machine, depth + 1, &inner, body, known)?;
-                Ok(self.made_of(machine, Cmd::AbsTerm, &[step, body])?)
+                let ty = self.type_origin(alloc, v.ty, &mut known.types)?;
+                let step = self.binder_step(alloc, depth, ty)?;
+                let inner = inside(alloc, Binder { variable: v, step }, binders)?;
+                let body = self.term_origin(alloc, depth + 1, &inner, body, known)?;
+                Ok(self.made_of(Cmd::AbsTerm, &[step, body])?)
             }
         }
     }

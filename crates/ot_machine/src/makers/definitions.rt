@@ -14,7 +14,7 @@ ghost use Rattle.ot_machine.specs.Rows.{type_defining, origin_at};
 ghost use Rattle.ot_machine.specs.Defining.{closed_defined, defined_in, stated, operator_theorems};
 ghost use Rattle.ot_machine.specs.Defining.{AreOperandsIn, AreOperatorSteps, IsOperatorOf};
 ghost use Rattle.ot_machine.specs.Contexts.{context_of, IsContextOf};
-ghost use Rattle.ot_machine.specs.Meaning.{article_of, origin_of, run_of, version_of, IsOf, Traces};
+ghost use Rattle.ot_machine.specs.Meaning.{article_of, origin_of, run_of, version_of, IsRun, Traces};
 ghost use Rattle.ot_machine.specs.Stays.{GrowsBeside, MakesStep};
 ghost use Rattle.ot_machine.specs.Answers.{Makes};
 
@@ -26,6 +26,7 @@ use ot_kernel::ThmId;
 use ot_logic::{Cmd, Memory, NameId};
 use ot_term::{TermId, VarKey};
 use ot_trace::StepId;
+use std::alloc::Global;
 
 /// A constant that was defined: its step, and its theorem with the step of that.
 #[derive(Clone, Copy)]
@@ -67,7 +68,7 @@ impl Session {
         term: TermId,
         term_step: StepId,
     ) -> Result<DefinedConstant, Fault>
-        requires of { IsOf self.old machine.now }
+        requires run { IsRun self.old }
         requires name { name < length self.old.kernel.names }
         requires term { term < length self.old.kernel.terms }
         requires term_step { term_step < length self.old.trace }
@@ -91,11 +92,11 @@ impl Session {
         ensures symbol_step { IfOk result (λ d. d.symbol < length self.new.trace) }
         ensures theorem { IfOk result (λ d. d.theorem < length self.new.kernel.theorems) }
         ensures step { IfOk result (λ d. d.step < length self.new.trace) }
-        ensures adds { GrowsBeside result self.old self.new machine.now }
+        ensures adds { GrowsBeside result self.old self.new }
     {
-        let (symbol, definition) = self.constant_defining(machine, name, term_step)?;
-        let step = self.outcome_step(machine, 1, definition)?;
-        let theorem = self.accept_constant(machine, name, term, definition)?;
+        let (symbol, definition) = self.constant_defining(name, term_step)?;
+        let step = self.outcome_step(1, definition)?;
+        let theorem = self.accept_constant(name, term, definition)?;
         Ok(DefinedConstant {
             symbol,
             theorem,
@@ -106,11 +107,10 @@ impl Session {
     /// The steps of a constant and of its definition by the term of a step.
     fn constant_defining(
         &mut self,
-        machine: &Machine,
         name: NameId,
         term_step: StepId,
     ) -> Result<(StepId, StepId), Memory>
-        requires of { IsOf self.old machine.now }
+        requires run { IsRun self.old }
         requires name { name < length self.old.kernel.names }
         requires term_step { term_step < length self.old.trace }
         ensures symbol { IfOk result (λ p. origin_of self.new p.0 ≡ constant_origin (Named (name_at self.old.kernel name))) }
@@ -118,15 +118,10 @@ impl Session {
             (from_list (Named (name_at self.old.kernel name) ∷ origin_of self.old term_step ∷ []))) }
         ensures symbol_step { IfOk result (λ p. p.0 < length self.new.trace) }
         ensures definition_step { IfOk result (λ p. p.1 < length self.new.trace) }
-        ensures kept { Traces self.old self.new machine.now }
+        ensures kept { Traces self.old self.new }
     {
-        let (name_step, symbol) = self.symbol_steps(machine, Cmd::Const, name)?;
-        let definition = self.defining_step(
-            machine,
-            Cmd::DefineConst,
-            &[name_step, term_step],
-            &[symbol],
-        )?;
+        let (name_step, symbol) = self.symbol_steps(Cmd::Const, name)?;
+        let definition = self.defining_step(Cmd::DefineConst, &[name_step, term_step], &[symbol])?;
         Ok((symbol, definition))
     }
 
@@ -142,7 +137,7 @@ impl Session {
         premise: ThmId,
         premise_step: StepId,
     ) -> Result<(ThmId, StepId), Fault>
-        requires of { IsOf self.old machine.now }
+        requires run { IsRun self.old }
         requires context { IsContextOf self.old context.now }
         requires constants { All (λ n. n < length self.old.kernel.names) constants.now }
         requires variables { All (λ v. (v.name < length self.old.kernel.names) × (v.ty < length self.old.kernel.types))
@@ -165,23 +160,23 @@ impl Session {
             (run_of self.old)) }
         ensures theorem { IfOk result (λ d. d.0 < length self.new.kernel.theorems) }
         ensures step { IfOk result (λ d. d.1 < length self.new.trace) }
-        ensures adds { GrowsBeside result self.old self.new machine.now }
+        ensures adds { GrowsBeside result self.old self.new }
     {
-        let definition = self.list_defining(machine, context, list_step, premise_step)?;
-        let step = self.outcome_step(machine, 1, definition)?;
-        let theorem = self.accept_list(machine, constants, variables, premise, definition)?;
+        let definition = self.list_defining(machine.alloc, context, list_step, premise_step)?;
+        let step = self.outcome_step(1, definition)?;
+        let theorem = self.accept_list(constants, variables, premise, definition)?;
         Ok((theorem, step))
     }
 
     /// The step of the definition of a list of constants by a list of their names and variables and a theorem.
     fn list_defining(
         &mut self,
-        machine: &Machine,
+        alloc: Global,
         context: &Context<'_>,
         list_step: StepId,
         premise_step: StepId,
     ) -> Result<StepId, Memory>
-        requires of { IsOf self.old machine.now }
+        requires run { IsRun self.old }
         requires context { IsContextOf self.old context.now }
         requires list_step { list_step < length self.old.trace }
         requires premise_step { premise_step < length self.old.trace }
@@ -189,15 +184,10 @@ impl Session {
             (Define words.DefineConstList (from_list (renamed_pairs (renamed names
             (context_of self.old context.now).interpretation.constants)
             (origin_of self.old list_step) ∷ origin_of self.old premise_step ∷ [])))
-            self.old self.new machine.now }
+            self.old self.new }
     {
-        let (list, symbols) = self.renamed_list(machine, context, list_step)?;
-        Ok(self.defining_step(
-            machine,
-            Cmd::DefineConstList,
-            &[list, premise_step],
-            &symbols,
-        )?)
+        let (list, symbols) = self.renamed_list(alloc, context, list_step)?;
+        Ok(self.defining_step(Cmd::DefineConstList, &[list, premise_step], &symbols)?)
     }
 
     /// The two theorems of a type operator that is taken from a type, and of the constants between the two types, by
@@ -215,7 +205,7 @@ impl Session {
         premise: ThmId,
         premise_step: StepId,
     ) -> Result<DefinedOperator, Fault>
-        requires of { IsOf self.old machine.now }
+        requires run { IsRun self.old }
         requires operands { AreOperandsIn self.old.kernel name abs rep variables.now premise }
         requires list_step { list_step < length self.old.trace }
         requires list_origin { origin_of self.old list_step ≡ origin_at 1 (article_of self.old machine.now).stack }
@@ -226,7 +216,7 @@ impl Session {
             (type_defining (name_at self.old.kernel name) (name_at self.old.kernel abs) (name_at self.old.kernel rep)
             (article_of self.old machine.now).stack) (run_of self.old)) }
         ensures operator { IfOk result (IsOperatorOf self.old self.new name abs rep) }
-        ensures adds { GrowsBeside result self.old self.new machine.now }
+        ensures adds { GrowsBeside result self.old self.new }
     {
         match version {
             Version::Six => self.closed_type_definition(
@@ -264,7 +254,7 @@ impl Session {
         premise: ThmId,
         premise_step: StepId,
     ) -> Result<DefinedOperator, Fault>
-        requires of { IsOf self.old machine.now }
+        requires run { IsRun self.old }
         requires operands { AreOperandsIn self.old.kernel name abs rep variables.now premise }
         requires list_step { list_step < length self.old.trace }
         requires list_origin { origin_of self.old list_step ≡ origin_at 1 (article_of self.old machine.now).stack }
@@ -275,13 +265,12 @@ impl Session {
             (type_defining (name_at self.old.kernel name) (name_at self.old.kernel abs) (name_at self.old.kernel rep)
             (article_of self.old machine.now).stack) (run_of self.old)) }
         ensures operator { IfOk result (IsOperatorOf self.old self.new name abs rep) }
-        ensures adds { GrowsBeside result self.old self.new machine.now }
+        ensures adds { GrowsBeside result self.old self.new }
     {
-        let steps = self.type_defining(machine, name, abs, rep, list_step, premise_step)?;
-        let abs_rep_step = self.outcome_step(machine, 1, steps.definition)?;
-        let rep_abs_step = self.outcome_step(machine, 2, steps.definition)?;
+        let steps = self.type_defining(name, abs, rep, list_step, premise_step)?;
+        let abs_rep_step = self.outcome_step(1, steps.definition)?;
+        let rep_abs_step = self.outcome_step(2, steps.definition)?;
         let (abs_rep, rep_abs) = self.accept_type(
-            machine,
             name,
             abs,
             rep,
@@ -304,27 +293,25 @@ impl Session {
     /// theorem.
     pub(crate) fn type_defining(
         &mut self,
-        machine: &Machine,
         name: NameId,
         abs: NameId,
         rep: NameId,
         list_step: StepId,
         premise_step: StepId,
     ) -> Result<OperatorSteps, Memory>
-        requires of { IsOf self.old machine.now }
+        requires run { IsRun self.old }
         requires name { name < length self.old.kernel.names }
         requires abs { abs < length self.old.kernel.names }
         requires rep { rep < length self.old.kernel.names }
         requires list_step { list_step < length self.old.trace }
         requires premise_step { premise_step < length self.old.trace }
         ensures made { IfOk result (AreOperatorSteps self.old self.new name abs rep list_step premise_step) }
-        ensures kept { Traces self.old self.new machine.now }
+        ensures kept { Traces self.old self.new }
     {
-        let (name_step, op) = self.symbol_steps(machine, Cmd::TypeOp, name)?;
-        let (abs_name, abs) = self.symbol_steps(machine, Cmd::Const, abs)?;
-        let (rep_name, rep) = self.symbol_steps(machine, Cmd::Const, rep)?;
+        let (name_step, op) = self.symbol_steps(Cmd::TypeOp, name)?;
+        let (abs_name, abs) = self.symbol_steps(Cmd::Const, abs)?;
+        let (rep_name, rep) = self.symbol_steps(Cmd::Const, rep)?;
         let definition = self.defining_step(
-            machine,
             Cmd::DefineTypeOp,
             &[name_step, abs_name, rep_name, list_step, premise_step],
             &[op, abs, rep],

@@ -11,7 +11,7 @@ ghost use Rattle.ot_machine.specs.Version5.{app};
 ghost use Rattle.ot_machine.specs.OpenTypes.{fun_origin, bool_origin, constant_at, variable_at, term_of, redex};
 ghost use Rattle.ot_machine.specs.OpenTypes.{composed, outcome_at, reduced, returned_origin, opened_origin};
 ghost use Rattle.ot_machine.specs.OpenTypes.{AreConstants, first_origin, second_origin, open_entries};
-ghost use Rattle.ot_machine.specs.Meaning.{article_of, origin_of, run_of, IsOf, Traces};
+ghost use Rattle.ot_machine.specs.Meaning.{article_of, origin_of, run_of, IsRun, Traces};
 ghost use Rattle.ot_machine.specs.Stays.{Stays, GrowsBeside, MakesStep};
 ghost use Rattle.ot_machine.specs.Answers.{Makes};
 
@@ -25,6 +25,7 @@ use ot_logic::{Cmd, Memory, NameId};
 use ot_term::TermNode;
 use ot_trace::StepId;
 use ot_view::{term_node, type_of};
+use std::alloc::Global;
 
 /// The steps of the two constants of a type operator, and of the equality of its old type, as terms.
 #[derive(Clone, Copy)]
@@ -36,93 +37,82 @@ pub(crate) struct OpenConstants {
 
 impl Session {
     /// The step of the type that an operator makes of the types in the list of a step.
-    fn operated_step(
-        &mut self,
-        machine: &Machine,
-        op: NameId,
-        list: StepId,
-    ) -> Result<StepId, Memory>
-        requires of { IsOf self.old machine.now }
+    fn operated_step(&mut self, op: NameId, list: StepId) -> Result<StepId, Memory>
+        requires run { IsRun self.old }
         requires op { op < length self.old.kernel.names }
         requires list { list < length self.old.trace }
         ensures { MakesStep result
             (make_two words.OpType (type_op_origin (Named (name_at self.old.kernel op))) (origin_of self.old list))
-            self.old self.new machine.now }
+            self.old self.new }
     {
-        let (_, symbol) = self.symbol_steps(machine, Cmd::TypeOp, op)?;
-        Ok(self.made_of(machine, Cmd::OpType, &[symbol, list])?)
+        let (_, symbol) = self.symbol_steps(Cmd::TypeOp, op)?;
+        Ok(self.made_of(Cmd::OpType, &[symbol, list])?)
     }
 
     /// The step of a function type.
-    fn function_step(
-        &mut self,
-        machine: &Machine,
-        from: StepId,
-        to: StepId,
-    ) -> Result<StepId, Memory>
-        requires of { IsOf self.old machine.now }
+    fn function_step(&mut self, from: StepId, to: StepId) -> Result<StepId, Memory>
+        requires run { IsRun self.old }
         requires from { from < length self.old.trace }
         requires to { to < length self.old.trace }
         ensures { MakesStep result
             (fun_origin (origin_of self.old from) (origin_of self.old to))
-            self.old self.new machine.now }
+            self.old self.new }
     {
         self.kernel.sound();
-        let nil = self.made_of(machine, Cmd::Nil, &[])?;
-        let last = self.made_of(machine, Cmd::Cons, &[to, nil])?;
-        let both = self.made_of(machine, Cmd::Cons, &[from, last])?;
-        Ok(self.operated_step(machine, NameId::ARROW, both)?)
+        let nil = self.made_of(Cmd::Nil, &[])?;
+        let last = self.made_of(Cmd::Cons, &[to, nil])?;
+        let both = self.made_of(Cmd::Cons, &[from, last])?;
+        Ok(self.operated_step(NameId::ARROW, both)?)
     }
 
     /// The step of the type of propositions.
-    fn boolean_step(&mut self, machine: &Machine) -> Result<StepId, Memory>
-        requires of { IsOf self.old machine.now }
-        ensures { MakesStep result bool_origin self.old self.new machine.now }
+    fn boolean_step(&mut self) -> Result<StepId, Memory>
+        requires run { IsRun self.old }
+        ensures { MakesStep result bool_origin self.old self.new }
     {
         self.kernel.sound();
-        let nil = self.made_of(machine, Cmd::Nil, &[])?;
-        Ok(self.operated_step(machine, NameId::BOOL, nil)?)
+        let nil = self.made_of(Cmd::Nil, &[])?;
+        Ok(self.operated_step(NameId::BOOL, nil)?)
     }
 
     /// The step of the equality of a type, as a term.
-    fn equality_step(&mut self, machine: &Machine, ty: StepId) -> Result<StepId, Memory>
-        requires of { IsOf self.old machine.now }
+    fn equality_step(&mut self, ty: StepId) -> Result<StepId, Memory>
+        requires run { IsRun self.old }
         requires ty { ty < length self.old.trace }
         ensures { MakesStep result
             (constant_at names.equals (fun_origin (origin_of self.old ty) (fun_origin
             (origin_of self.old ty) bool_origin)))
-            self.old self.new machine.now }
+            self.old self.new }
     {
         self.kernel.sound();
-        let truth = self.boolean_step(machine)?;
-        let test = self.function_step(machine, ty, truth)?;
-        let whole = self.function_step(machine, ty, test)?;
-        Ok(self.constant_step(machine, NameId::EQUALS, whole)?)
+        let truth = self.boolean_step()?;
+        let test = self.function_step(ty, truth)?;
+        let whole = self.function_step(ty, test)?;
+        Ok(self.constant_step(NameId::EQUALS, whole)?)
     }
 
     /// The steps of the constants between an old and a new type, and of the equality of the old one.
     fn constants_between(
         &mut self,
-        machine: &Machine,
         abs: NameId,
         rep: NameId,
         old: StepId,
         new: StepId,
     ) -> Result<OpenConstants, Memory>
-        requires of { IsOf self.old machine.now }
+        requires run { IsRun self.old }
         requires abs { abs < length self.old.kernel.names }
         requires rep { rep < length self.old.kernel.names }
         requires old { old < length self.old.trace }
         requires new { new < length self.old.trace }
         ensures made { IfOk result
             (AreConstants self.old self.new (name_at self.old.kernel abs) (name_at self.old.kernel rep) old new) }
-        ensures kept { Traces self.old self.new machine.now }
+        ensures kept { Traces self.old self.new }
     {
-        let to = self.function_step(machine, old, new)?;
-        let to_new = self.constant_step(machine, abs, to)?;
-        let from = self.function_step(machine, new, old)?;
-        let to_old = self.constant_step(machine, rep, from)?;
-        let equality = self.equality_step(machine, old)?;
+        let to = self.function_step(old, new)?;
+        let to_new = self.constant_step(abs, to)?;
+        let from = self.function_step(new, old)?;
+        let to_old = self.constant_step(rep, from)?;
+        let equality = self.equality_step(old)?;
         Ok(OpenConstants {
             abs: to_new,
             rep: to_old,
@@ -131,13 +121,8 @@ impl Session {
     }
 
     /// The steps of the variable of a name at the type of a step, and of it as a term.
-    fn variable_steps(
-        &mut self,
-        machine: &Machine,
-        name: NameId,
-        ty: StepId,
-    ) -> Result<(StepId, StepId), Memory>
-        requires of { IsOf self.old machine.now }
+    fn variable_steps(&mut self, name: NameId, ty: StepId) -> Result<(StepId, StepId), Memory>
+        requires run { IsRun self.old }
         requires name { name < length self.old.kernel.names }
         requires ty { ty < length self.old.trace }
         ensures variable { IfOk result (λ p. origin_of self.new p.0
@@ -146,106 +131,101 @@ impl Session {
             ≡ term_of (variable_at (name_at self.old.kernel name) (origin_of self.old ty))) }
         ensures variable_step { IfOk result (λ p. p.0 < length self.new.trace) }
         ensures term_step { IfOk result (λ p. p.1 < length self.new.trace) }
-        ensures kept { Traces self.old self.new machine.now }
+        ensures kept { Traces self.old self.new }
     {
-        let variable = self.variable_step(machine, name, ty)?;
-        let term = self.made_of(machine, Cmd::VarTerm, &[variable])?;
+        let variable = self.variable_step(name, ty)?;
+        let term = self.made_of(Cmd::VarTerm, &[variable])?;
         Ok((variable, term))
     }
 
     /// The step of the application of an abstraction.
     fn redex_step(
         &mut self,
-        machine: &Machine,
         variable: StepId,
         body: StepId,
         argument: StepId,
     ) -> Result<StepId, Memory>
-        requires of { IsOf self.old machine.now }
+        requires run { IsRun self.old }
         requires variable { variable < length self.old.trace }
         requires body { body < length self.old.trace }
         requires argument { argument < length self.old.trace }
         ensures { MakesStep result
             (redex (origin_of self.old variable) (origin_of self.old body) (origin_of self.old argument))
-            self.old self.new machine.now }
+            self.old self.new }
     {
-        let function = self.made_of(machine, Cmd::AbsTerm, &[variable, body])?;
-        Ok(self.made_of(machine, Cmd::AppTerm, &[function, argument])?)
+        let function = self.made_of(Cmd::AbsTerm, &[variable, body])?;
+        Ok(self.made_of(Cmd::AppTerm, &[function, argument])?)
     }
 
     /// The step of one function after another, at an argument.
     fn composed_step(
         &mut self,
-        machine: &Machine,
         outer: StepId,
         inner: StepId,
         argument: StepId,
     ) -> Result<StepId, Memory>
-        requires of { IsOf self.old machine.now }
+        requires run { IsRun self.old }
         requires outer { outer < length self.old.trace }
         requires inner { inner < length self.old.trace }
         requires argument { argument < length self.old.trace }
         ensures { MakesStep result
             (composed (origin_of self.old outer) (origin_of self.old inner) (origin_of self.old argument))
-            self.old self.new machine.now }
+            self.old self.new }
     {
-        let value = self.made_of(machine, Cmd::AppTerm, &[inner, argument])?;
-        Ok(self.made_of(machine, Cmd::AppTerm, &[outer, value])?)
+        let value = self.made_of(Cmd::AppTerm, &[inner, argument])?;
+        Ok(self.made_of(Cmd::AppTerm, &[outer, value])?)
     }
 
     /// The step of the theorem at a place of a definition, applied to a term.
     fn outcome_at_step(
         &mut self,
-        machine: &Machine,
         place: u8,
         definition: StepId,
         argument: StepId,
     ) -> Result<StepId, Memory>
-        requires of { IsOf self.old machine.now }
+        requires run { IsRun self.old }
         requires definition { definition < length self.old.trace }
         requires argument { argument < length self.old.trace }
         ensures { MakesStep result
             (outcome_at place (origin_of self.old definition) (origin_of self.old argument))
-            self.old self.new machine.now }
+            self.old self.new }
     {
-        let theorem = self.outcome_step(machine, place, definition)?;
-        let same = self.made_of(machine, Cmd::Refl, &[argument])?;
-        Ok(self.made_of(machine, Cmd::AppThm, &[theorem, same])?)
+        let theorem = self.outcome_step(place, definition)?;
+        let same = self.made_of(Cmd::Refl, &[argument])?;
+        Ok(self.made_of(Cmd::AppThm, &[theorem, same])?)
     }
 
     /// The step of the theorem that two redexes reduce to one term, from that of their equation.
     fn reduced_step(
         &mut self,
-        machine: &Machine,
         left: StepId,
         theorem: StepId,
         right: StepId,
     ) -> Result<StepId, Memory>
-        requires of { IsOf self.old machine.now }
+        requires run { IsRun self.old }
         requires left { left < length self.old.trace }
         requires theorem { theorem < length self.old.trace }
         requires right { right < length self.old.trace }
         ensures { MakesStep result
             (reduced (origin_of self.old left) (origin_of self.old theorem) (origin_of self.old right))
-            self.old self.new machine.now }
+            self.old self.new }
     {
-        let conversion = self.made_of(machine, Cmd::BetaConv, &[left])?;
-        let turned = self.made_of(machine, Cmd::Sym, &[conversion])?;
-        let start = self.made_of(machine, Cmd::Trans, &[turned, theorem])?;
-        let end = self.made_of(machine, Cmd::BetaConv, &[right])?;
-        Ok(self.made_of(machine, Cmd::Trans, &[start, end])?)
+        let conversion = self.made_of(Cmd::BetaConv, &[left])?;
+        let turned = self.made_of(Cmd::Sym, &[conversion])?;
+        let start = self.made_of(Cmd::Trans, &[turned, theorem])?;
+        let end = self.made_of(Cmd::BetaConv, &[right])?;
+        Ok(self.made_of(Cmd::Trans, &[start, end])?)
     }
 
     /// The step of the theorem that a value of the new type comes back.
     fn returned_step(
         &mut self,
-        machine: &Machine,
         definition: StepId,
         abs: StepId,
         rep: StepId,
         new: StepId,
     ) -> Result<StepId, Memory>
-        requires of { IsOf self.old machine.now }
+        requires run { IsRun self.old }
         requires definition { definition < length self.old.trace }
         requires abs { abs < length self.old.trace }
         requires rep { rep < length self.old.trace }
@@ -253,25 +233,20 @@ impl Session {
         ensures { MakesStep result
             (returned_origin (origin_of self.old definition) (origin_of self.old abs) (origin_of self.old rep)
             (origin_of self.old new))
-            self.old self.new machine.now }
+            self.old self.new }
     {
         self.kernel.sound();
-        let (variable, a) = self.variable_steps(machine, NameId::A, new)?;
-        let round = self.composed_step(machine, abs, rep, a)?;
-        let left = self.redex_step(machine, variable, round, a)?;
-        let theorem = self.outcome_at_step(machine, 1, definition, a)?;
-        let right = self.redex_step(machine, variable, a, a)?;
-        Ok(self.reduced_step(machine, left, theorem, right)?)
+        let (variable, a) = self.variable_steps(NameId::A, new)?;
+        let round = self.composed_step(abs, rep, a)?;
+        let left = self.redex_step(variable, round, a)?;
+        let theorem = self.outcome_at_step(1, definition, a)?;
+        let right = self.redex_step(variable, a, a)?;
+        Ok(self.reduced_step(left, theorem, right)?)
     }
 
     /// The step of rep (abs r) = r.
-    fn equation_step(
-        &mut self,
-        machine: &Machine,
-        constants: OpenConstants,
-        r: StepId,
-    ) -> Result<StepId, Memory>
-        requires of { IsOf self.old machine.now }
+    fn equation_step(&mut self, constants: OpenConstants, r: StepId) -> Result<StepId, Memory>
+        requires run { IsRun self.old }
         requires abs { constants.abs < length self.old.trace }
         requires rep { constants.rep < length self.old.trace }
         requires equality { constants.equality < length self.old.trace }
@@ -279,23 +254,22 @@ impl Session {
         ensures { MakesStep result
             (app (app (origin_of self.old constants.equality) (composed (origin_of self.old constants.rep)
             (origin_of self.old constants.abs) (origin_of self.old r))) (origin_of self.old r))
-            self.old self.new machine.now }
+            self.old self.new }
     {
-        let round = self.composed_step(machine, constants.rep, constants.abs, r)?;
-        let left = self.made_of(machine, Cmd::AppTerm, &[constants.equality, round])?;
-        Ok(self.made_of(machine, Cmd::AppTerm, &[left, r])?)
+        let round = self.composed_step(constants.rep, constants.abs, r)?;
+        let left = self.made_of(Cmd::AppTerm, &[constants.equality, round])?;
+        Ok(self.made_of(Cmd::AppTerm, &[left, r])?)
     }
 
     /// The step of the theorem that the predicate holds just where a value of the old type comes back.
     fn opened_step(
         &mut self,
-        machine: &Machine,
         definition: StepId,
         constants: OpenConstants,
         predicate: StepId,
         old: StepId,
     ) -> Result<StepId, Memory>
-        requires of { IsOf self.old machine.now }
+        requires run { IsRun self.old }
         requires definition { definition < length self.old.trace }
         requires abs { constants.abs < length self.old.trace }
         requires rep { constants.rep < length self.old.trace }
@@ -306,24 +280,24 @@ impl Session {
             (opened_origin (origin_of self.old definition) (origin_of self.old constants.abs)
             (origin_of self.old constants.rep) (origin_of self.old constants.equality)
             (origin_of self.old predicate) (origin_of self.old old))
-            self.old self.new machine.now }
+            self.old self.new }
     {
         self.kernel.sound();
-        let (variable, r) = self.variable_steps(machine, NameId::R, old)?;
-        let claim = self.made_of(machine, Cmd::AppTerm, &[predicate, r])?;
-        let left = self.redex_step(machine, variable, claim, r)?;
-        let equation = self.equation_step(machine, constants, r)?;
-        let right = self.redex_step(machine, variable, equation, r)?;
-        let theorem = self.outcome_at_step(machine, 2, definition, r)?;
-        let turned = self.made_of(machine, Cmd::Sym, &[theorem])?;
-        Ok(self.reduced_step(machine, left, turned, right)?)
+        let (variable, r) = self.variable_steps(NameId::R, old)?;
+        let claim = self.made_of(Cmd::AppTerm, &[predicate, r])?;
+        let left = self.redex_step(variable, claim, r)?;
+        let equation = self.equation_step(constants, r)?;
+        let right = self.redex_step(variable, equation, r)?;
+        let theorem = self.outcome_at_step(2, definition, r)?;
+        let turned = self.made_of(Cmd::Sym, &[theorem])?;
+        Ok(self.reduced_step(left, turned, right)?)
     }
 
     /// The steps of the two theorems that follow from a definition of a type operator, before it is accepted. A
     /// definition by what is no application has none, and isn't accepted.
     fn open_steps(
         &mut self,
-        machine: &Machine,
+        alloc: Global,
         name: NameId,
         abs: NameId,
         rep: NameId,
@@ -331,7 +305,7 @@ impl Session {
         premise: ThmId,
         definition: StepId,
     ) -> Result<(StepId, StepId), Memory>
-        requires of { IsOf self.old machine.now }
+        requires run { IsRun self.old }
         requires operands { AreOperandsIn self.old.kernel name abs rep variables.now premise }
         requires definition { definition < length self.old.trace }
         ensures first { IfOk result (λ p. origin_of self.new p.0
@@ -340,25 +314,19 @@ impl Session {
             ≡ origin_by second_origin self.old.kernel name abs rep variables.now premise (origin_of self.old definition)) }
         ensures first_step { IfOk result (λ p. p.0 < length self.new.trace) }
         ensures second_step { IfOk result (λ p. p.1 < length self.new.trace) }
-        ensures kept { Stays self.old self.new machine.now }
+        ensures kept { Stays self.old self.new }
     {
         match *term_node(&self.kernel, self.kernel.concl(premise)) {
             TermNode::App(p, t) => {
-                let mut known = Known::new(machine.alloc);
+                let mut known = Known::new(alloc);
                 let ty = type_of(&self.kernel, t);
-                let predicate = self.term_origin(machine, 0, &[], p, &mut known)?;
-                let old = self.type_origin(machine, ty, &mut known.types)?;
-                let list = self.symbol_list_step(machine, Cmd::VarType, variables)?;
-                let new = self.operated_step(machine, name, list)?;
-                let constants = self.constants_between(machine, abs, rep, old, new)?;
-                let first = self.returned_step(
-                    machine,
-                    definition,
-                    constants.abs,
-                    constants.rep,
-                    new,
-                )?;
-                let second = self.opened_step(machine, definition, constants, predicate, old)?;
+                let predicate = self.term_origin(alloc, 0, &[], p, &mut known)?;
+                let old = self.type_origin(alloc, ty, &mut known.types)?;
+                let list = self.symbol_list_step(Cmd::VarType, variables)?;
+                let new = self.operated_step(name, list)?;
+                let constants = self.constants_between(abs, rep, old, new)?;
+                let first = self.returned_step(definition, constants.abs, constants.rep, new)?;
+                let second = self.opened_step(definition, constants, predicate, old)?;
                 Ok((first, second))
             }
             _ => Ok((definition, definition)),
@@ -368,7 +336,6 @@ impl Session {
     /// The two theorems that follow from a definition of a type operator, which is accepted with its step.
     fn accept_open_type(
         &mut self,
-        machine: &Machine,
         name: NameId,
         abs: NameId,
         rep: NameId,
@@ -376,7 +343,7 @@ impl Session {
         premise: ThmId,
         definition: StepId,
     ) -> Result<(ThmId, ThmId), Fault>
-        requires of { IsOf self.old machine.now }
+        requires run { IsRun self.old }
         requires operands { AreOperandsIn self.old.kernel name abs rep variables.now premise }
         requires definition { definition < length self.old.trace }
         ensures made { Makes self.new.kernel (λ p. (
@@ -390,7 +357,7 @@ impl Session {
             (origin_of self.old definition) (run_of self.old)) }
         ensures first { IfOk result (λ p. p.0 < length self.new.kernel.theorems) }
         ensures second { IfOk result (λ p. p.1 < length self.new.kernel.theorems) }
-        ensures adds { GrowsBeside result self.old self.new machine.now }
+        ensures adds { GrowsBeside result self.old self.new }
     {
         self.kernel.sound();
         self.definition_steps.push(definition)?;
@@ -418,7 +385,7 @@ impl Session {
         premise: ThmId,
         premise_step: StepId,
     ) -> Result<DefinedOperator, Fault>
-        requires of { IsOf self.old machine.now }
+        requires run { IsRun self.old }
         requires operands { AreOperandsIn self.old.kernel name abs rep variables.now premise }
         requires list_step { list_step < length self.old.trace }
         requires list_origin { origin_of self.old list_step ≡ origin_at 1 (article_of self.old machine.now).stack }
@@ -429,11 +396,11 @@ impl Session {
             (type_defining (name_at self.old.kernel name) (name_at self.old.kernel abs) (name_at self.old.kernel rep)
             (article_of self.old machine.now).stack) (run_of self.old)) }
         ensures operator { IfOk result (IsOperatorOf self.old self.new name abs rep) }
-        ensures adds { GrowsBeside result self.old self.new machine.now }
+        ensures adds { GrowsBeside result self.old self.new }
     {
-        let steps = self.type_defining(machine, name, abs, rep, list_step, premise_step)?;
+        let steps = self.type_defining(name, abs, rep, list_step, premise_step)?;
         let (abs_rep_step, rep_abs_step) = self.open_steps(
-            machine,
+            machine.alloc,
             name,
             abs,
             rep,
@@ -442,7 +409,6 @@ impl Session {
             steps.definition,
         )?;
         let (abs_rep, rep_abs) = self.accept_open_type(
-            machine,
             name,
             abs,
             rep,

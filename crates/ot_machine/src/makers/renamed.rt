@@ -10,12 +10,11 @@ ghost use Rattle.ot_kernel.specs.State.{name_at};
 ghost use Rattle.ot_trace.specs.Origins.{elements, operand, constant_origin, make_two, renamed_first, renamed_pairs};
 ghost use Rattle.ot_trace.specs.Trace.{origin_at};
 ghost use Rattle.ot_machine.specs.Contexts.{context_of, IsContextOf};
-ghost use Rattle.ot_machine.specs.Meaning.{origin_of, IsOf, IsRun, Traces};
+ghost use Rattle.ot_machine.specs.Meaning.{origin_of, IsRun, Traces};
 ghost use Rattle.ot_machine.specs.Stays.{MakesStep};
 ghost use Rattle.ot_machine.specs.RenamedLists.{cons_numbers, list_onto, read_by, BeginsWith};
 
 use crate::context::Context;
-use crate::machine::Machine;
 use crate::session::Session;
 use ot_logic::{Cmd, Memory, NameId};
 use ot_trace::{Step, StepId};
@@ -26,11 +25,11 @@ impl Session {
     /// names.
     pub(crate) fn renamed_list(
         &mut self,
-        machine: &Machine,
+        alloc: Global,
         context: &Context<'_>,
         list: StepId,
     ) -> Result<(StepId, Vec<StepId>), Memory>
-        requires of { IsOf self.old machine.now }
+        requires run { IsRun self.old }
         requires context { IsContextOf self.old context.now }
         requires list { list < length self.old.trace }
         ensures made { IfOk result (λ p. origin_of self.new p.0
@@ -40,12 +39,12 @@ impl Session {
             ≡ map (λ pair. constant_origin (operand 0 pair)) (elements (origin_at self.new.trace p.0))) }
         ensures list_step { IfOk result (λ p. p.0 < length self.new.trace) }
         ensures symbol_steps { IfOk result (λ p. All (λ i. i < length self.new.trace) p.1.items) }
-        ensures kept { Traces self.old self.new machine.now }
+        ensures kept { Traces self.old self.new }
     {
-        let (found, end) = self.elements_of(machine.alloc, list)?;
-        let pairs = self.renamed_each(machine, context, &found)?;
-        let list = self.list_step(machine, &pairs, end)?;
-        let symbols = self.symbols_of(machine, &pairs)?;
+        let (found, end) = self.elements_of(alloc, list)?;
+        let pairs = self.renamed_each(alloc, context, &found)?;
+        let list = self.list_step(&pairs, end)?;
+        let symbols = self.symbols_of(alloc, &pairs)?;
         Ok((list, symbols))
     }
 
@@ -87,21 +86,21 @@ impl Session {
     /// The steps of these lists, each under another name at its begin.
     fn renamed_each(
         &mut self,
-        machine: &Machine,
+        alloc: Global,
         context: &Context<'_>,
         pairs: &[StepId],
     ) -> Result<Vec<StepId>, Memory>
-        requires of { IsOf self.old machine.now }
+        requires run { IsRun self.old }
         requires context { IsContextOf self.old context.now }
         requires inside { All (λ i. i < length self.old.trace) pairs.now }
         ensures made { IfOk result (λ v. map (origin_of self.new) v.items
             ≡ map (λ i. renamed_first (read_by self.old context.now) (origin_of self.old i)) pairs.now) }
         ensures inside { IfOk result (λ v. All (λ i. i < length self.new.trace) v.items) }
-        ensures kept { Traces self.old self.new machine.now }
+        ensures kept { Traces self.old self.new }
     {
-        let mut steps = Vec::new(machine.alloc);
+        let mut steps = Vec::new(alloc);
         for pair in pairs {
-            let step = self.renamed_begin(machine, context, *pair)?;
+            let step = self.renamed_begin(alloc, context, *pair)?;
             steps.push(step)?;
         }
         Ok(steps)
@@ -110,21 +109,21 @@ impl Session {
     /// The step of a list under another name at its begin; of anything else, its own.
     fn renamed_begin(
         &mut self,
-        machine: &Machine,
+        alloc: Global,
         context: &Context<'_>,
         pair: StepId,
     ) -> Result<StepId, Memory>
-        requires of { IsOf self.old machine.now }
+        requires run { IsRun self.old }
         requires context { IsContextOf self.old context.now }
         requires inside { pair < length self.old.trace }
         ensures { MakesStep result
             (renamed_first (read_by self.old context.now) (origin_of self.old pair))
-            self.old self.new machine.now }
+            self.old self.new }
     {
         match self.begin_of(pair) {
             Some(name) => {
                 let named = self.constant_named(context, name);
-                self.begun_with(machine, pair, named)
+                self.begun_with(alloc, pair, named)
             }
             None => Ok(pair),
         }
@@ -150,64 +149,54 @@ impl Session {
     }
 
     /// The step of a list that begins with a name, with this one in its place.
-    fn begun_with(
-        &mut self,
-        machine: &Machine,
-        pair: StepId,
-        name: NameId,
-    ) -> Result<StepId, Memory>
-        requires of { IsOf self.old machine.now }
+    fn begun_with(&mut self, alloc: Global, pair: StepId, name: NameId) -> Result<StepId, Memory>
+        requires run { IsRun self.old }
         requires inside { pair < length self.old.trace }
         requires begun { (n : ℕ) × BeginsWith (origin_at self.old.trace pair) n }
         requires name { name < length self.old.kernel.names }
         ensures { MakesStep result
             (renamed_first (λ n. name_at self.old.kernel name) (origin_of self.old pair))
-            self.old self.new machine.now }
+            self.old self.new }
     {
-        let begin = self.name_step(machine, name)?;
+        let begin = self.name_step(name)?;
         let parts = cons_operands(self.trace.step(pair));
-        let mut operands = Vec::from_slice(machine.alloc, parts)?;
+        let mut operands = Vec::from_slice(alloc, parts)?;
         operands[0] = begin;
-        self.made_of(machine, Cmd::Cons, &operands)
+        self.made_of(Cmd::Cons, &operands)
     }
 
     /// The step of the list of these elements before those of a list.
-    fn list_step(
-        &mut self,
-        machine: &Machine,
-        found: &[StepId],
-        end: StepId,
-    ) -> Result<StepId, Memory>
-        requires of { IsOf self.old machine.now }
+    fn list_step(&mut self, found: &[StepId], end: StepId) -> Result<StepId, Memory>
+        requires run { IsRun self.old }
         requires inside { All (λ i. i < length self.old.trace) found.now }
         requires end { end < length self.old.trace }
         ensures made { IfOk result (λ i. origin_at self.new.trace i
             ≡ list_onto (map (origin_at self.old.trace) found.now) (origin_at self.old.trace end)) }
         ensures inside { IfOk result (λ i. i < length self.new.trace) }
-        ensures kept { Traces self.old self.new machine.now }
+        ensures kept { Traces self.old self.new }
     {
         let mut list = end;
         let mut rest = found;
         'elements: while let Some((element, front)) = rest.split_last() {
-            list = self.made_of(machine, Cmd::Cons, &[*element, list])?;
+            list = self.made_of(Cmd::Cons, &[*element, list])?;
             rest = front;
         }
         Ok(list)
     }
 
     /// The steps of the constants that these lists begin with.
-    fn symbols_of(&mut self, machine: &Machine, pairs: &[StepId]) -> Result<Vec<StepId>, Memory>
-        requires of { IsOf self.old machine.now }
+    fn symbols_of(&mut self, alloc: Global, pairs: &[StepId]) -> Result<Vec<StepId>, Memory>
+        requires run { IsRun self.old }
         requires inside { All (λ i. i < length self.old.trace) pairs.now }
         ensures made { IfOk result (λ v. map (origin_at self.new.trace) v.items
             ≡ map (λ i. constant_origin (operand 0 (origin_at self.old.trace i))) pairs.now) }
         ensures inside { IfOk result (λ v. All (λ i. i < length self.new.trace) v.items) }
-        ensures kept { Traces self.old self.new machine.now }
+        ensures kept { Traces self.old self.new }
     {
-        let mut symbols = Vec::new(machine.alloc);
+        let mut symbols = Vec::new(alloc);
         for pair in pairs {
             let name = self.trace.operand(*pair, 0);
-            let symbol = self.made_of(machine, Cmd::Const, &[name])?;
+            let symbol = self.made_of(Cmd::Const, &[name])?;
             symbols.push(symbol)?;
         }
         Ok(symbols)

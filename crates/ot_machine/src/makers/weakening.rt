@@ -1,5 +1,5 @@
 //! A theorem of the context in the place of an axiom: the first with its conclusion and with hypotheses among its own,
-//! derived with the others. Kernel and trace grow; the machine and the run stand for what they stood for.
+//! derived with the others. Kernel and trace grow; the run stands for what it stood for.
 ghost use Rattle.std.specs.Prelude.{◌≡◌, ◌<◌, Result, length, map, IfOk, IfSome};
 ghost use Rattle.std.specs.List.{All};
 ghost use Rattle.std.specs.Option.{option_map};
@@ -13,14 +13,13 @@ ghost use Rattle.ot_machine.specs.Objects.{term};
 ghost use Rattle.ot_machine.specs.Rows.{theorem_entry};
 ghost use Rattle.ot_machine.specs.Discharge.{given_for, adding, weakened};
 ghost use Rattle.ot_machine.specs.Assumptions.{term_entries, supposing};
-ghost use Rattle.ot_machine.specs.Meaning.{origin_of, IsOf};
+ghost use Rattle.ot_machine.specs.Meaning.{origin_of, IsRun};
 ghost use Rattle.ot_machine.specs.Stays.{Stays};
 ghost use Rattle.ot_machine.specs.Contexts.{given_of, context_of, IsContextOf};
 ghost use Rattle.ot_machine.specs.Answers.{Makes};
 
 use crate::context::{Context, Given};
 use crate::fault::Fault;
-use crate::machine::Machine;
 use crate::session::Session;
 use ot_kernel::{RuleFault, ThmId};
 use ot_logic::Cmd;
@@ -77,12 +76,11 @@ impl Session {
     /// A theorem with each of these terms among its hypotheses. Their list has this step.
     pub(crate) fn weakened(
         &mut self,
-        machine: &Machine,
         given: Given,
         hyps: &[TermId],
         list_step: StepId,
     ) -> Result<Given, Fault>
-        requires of { IsOf self.old machine.now }
+        requires run { IsRun self.old }
         requires theorem { given.th < length self.old.kernel.theorems }
         requires step { given.step < length self.old.trace }
         requires hyps { All (λ t. t < length self.old.kernel.terms) hyps.now }
@@ -92,27 +90,21 @@ impl Session {
             (theorem_entry (given_of self.old given))) }
         ensures theorem { IfOk result (λ g. g.th < length self.new.kernel.theorems) }
         ensures step { IfOk result (λ g. g.step < length self.new.trace) }
-        ensures stays { Stays self.old self.new machine.now }
+        ensures stays { Stays self.old self.new }
     {
         let mut weaker = given;
         let mut rest = list_step;
         for hyp in hyps {
             let step = self.operand_of(rest, 0);
-            weaker = self.with_hypothesis(machine, weaker, *hyp, step)?;
+            weaker = self.with_hypothesis(weaker, *hyp, step)?;
             rest = self.operand_of(rest, 1);
         }
         Ok(weaker)
     }
 
     /// A theorem with a term among its hypotheses.
-    fn with_hypothesis(
-        &mut self,
-        machine: &Machine,
-        given: Given,
-        hyp: TermId,
-        step: StepId,
-    ) -> Result<Given, Fault>
-        requires of { IsOf self.old machine.now }
+    fn with_hypothesis(&mut self, given: Given, hyp: TermId, step: StepId) -> Result<Given, Fault>
+        requires run { IsRun self.old }
         requires theorem { given.th < length self.old.kernel.theorems }
         requires given_step { given.step < length self.old.trace }
         requires hyp { hyp < length self.old.kernel.terms }
@@ -122,24 +114,18 @@ impl Session {
             (theorem_entry (given_of self.old given))) }
         ensures theorem { IfOk result (λ g. g.th < length self.new.kernel.theorems) }
         ensures given_step { IfOk result (λ g. g.step < length self.new.trace) }
-        ensures stays { Stays self.old self.new machine.now }
+        ensures stays { Stays self.old self.new }
     {
         if self.kernel.has_hyp(given.th, hyp) {
             return Ok(given);
         }
-        self.adding(machine, given, hyp, step)
+        self.adding(given, hyp, step)
     }
 
     /// A theorem with one hypothesis more: from hyp |- hyp and the theorem, their equation, and by it the theorem
     /// again.
-    fn adding(
-        &mut self,
-        machine: &Machine,
-        given: Given,
-        hyp: TermId,
-        step: StepId,
-    ) -> Result<Given, Fault>
-        requires of { IsOf self.old machine.now }
+    fn adding(&mut self, given: Given, hyp: TermId, step: StepId) -> Result<Given, Fault>
+        requires run { IsRun self.old }
         requires theorem { given.th < length self.old.kernel.theorems }
         requires given_step { given.step < length self.old.trace }
         requires hyp { hyp < length self.old.kernel.terms }
@@ -149,30 +135,24 @@ impl Session {
             (record { object = term (term_at self.old.kernel hyp); origin = origin_of self.old step })) }
         ensures theorem { IfOk result (λ g. g.th < length self.new.kernel.theorems) }
         ensures given_step { IfOk result (λ g. g.step < length self.new.trace) }
-        ensures stays { Stays self.old self.new machine.now }
+        ensures stays { Stays self.old self.new }
     {
         let answer = self.kernel.assume(hyp);
-        let assumed = self.concluded(machine, answer, Cmd::Assume, &[step])?;
+        let assumed = self.concluded(answer, Cmd::Assume, &[step])?;
         let answer = self.kernel.deduct_antisym(assumed.th, given.th);
-        let equation = self.concluded(
-            machine,
-            answer,
-            Cmd::DeductAntisym,
-            &[assumed.step, given.step],
-        )?;
+        let equation = self.concluded(answer, Cmd::DeductAntisym, &[assumed.step, given.step])?;
         let answer = self.kernel.eq_mp(equation.th, assumed.th);
-        self.concluded(machine, answer, Cmd::EqMp, &[equation.step, assumed.step])
+        self.concluded(answer, Cmd::EqMp, &[equation.step, assumed.step])
     }
 
     /// What a rule gave, with the step that a word makes of those of its operands.
     fn concluded(
         &mut self,
-        machine: &Machine,
         answer: Result<ThmId, RuleFault>,
         word: Cmd,
         operands: &[StepId],
     ) -> Result<Given, Fault>
-        requires of { IsOf self.old machine.now }
+        requires run { IsRun self.old }
         requires operands { All (λ i. i < length self.old.trace) operands.now }
         ensures made { (k : State) (stated : Result (Sequent Name) (StatedFault Name))
             → Concludes answer stated k self.old.kernel
@@ -182,10 +162,10 @@ impl Session {
         ensures theorem { (k : State) (stated : Result (Sequent Name) (StatedFault Name))
             → Concludes answer stated k self.old.kernel → IfOk result (λ g. g.th < length self.new.kernel.theorems) }
         ensures step { IfOk result (λ g. g.step < length self.new.trace) }
-        ensures stays { Stays self.old self.new machine.now }
+        ensures stays { Stays self.old self.new }
     {
         let th = ruled(answer)?;
-        let step = self.made_of(machine, word, operands)?;
+        let step = self.made_of(word, operands)?;
         Ok(Given { th, step })
     }
 }

@@ -64,7 +64,7 @@ pub fn define_const_list(
     let variables = variables_of(alloc, &pairs)?;
     // The list of the constants is made first, so that nothing is refused after the definition.
     let constants = session.constants(machine, &names)?;
-    let step = session.symbol_list_step(machine, Cmd::Const, &names)?;
+    let step = session.symbol_list_step(Cmd::Const, &names)?;
     let (theorem, theorem_step) = session.list_definition(
         machine,
         context,

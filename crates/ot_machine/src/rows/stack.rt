@@ -29,7 +29,7 @@ pub fn name(session: &mut Session, machine: &mut Machine, id: NameId) -> Result<
               (name_at session.old.kernel id);
         }) stack))) session.old machine.old session.new machine.new }
 {
-    let step = session.name_step(machine, id)?;
+    let step = session.name_step(id)?;
     session.push(machine, Object::Name(id), Some(step))?;
     Ok(())
 }
@@ -39,7 +39,7 @@ pub fn nil(session: &mut Session, machine: &mut Machine) -> Result<(), Fault>
     requires { IsOf session.old machine.old }
     ensures { TakesRow result (on_stack nil_row) session.old machine.old session.new machine.new }
 {
-    let step = session.made_of(machine, Cmd::Nil, &[])?;
+    let step = session.made_of(Cmd::Nil, &[])?;
     session.push(machine, Object::List(List::Nil), Some(step))?;
     Ok(())
 }

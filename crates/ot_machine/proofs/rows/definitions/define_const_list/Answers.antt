@@ -10,15 +10,17 @@ use Rattle.ot_term.specs.declared.term.VarKey.{VarKey}
 use Rattle.ot_logic.specs.Naming.{names}
 use Rattle.ot_interp.specs.Interpretation.{renamed}
 use Rattle.ot_kernel.specs.State.{State, name_at, variable_at, theorem_at}
+use Rattle.ot_logic.specs.RanOut.{ran_out}
 use Rattle.ot_machine.specs.Objects.{list, theorem}
 use Rattle.ot_machine.specs.States.{Entry}
 use Rattle.ot_machine.specs.Rows.{constants_of, constants_origin, constants_entry}
 use Rattle.ot_machine.specs.Rows.{origin_at, with_defined, define_const_list_row}
 use Rattle.ot_machine.specs.Contexts.{context_of}
 use Rattle.ot_machine.specs.Meaning.{list_at, origin_of, machine_state}
+use Rattle.ot_machine.specs.declared.fault.Fault.TheVariants as code
 use Rattle.ot_machine.proofs.Constants.{constants-listed}
-use Rattle.ot_machine.proofs.Kept.{lists, origin-kept, traces-grow, grows-on}
-use Rattle.ot_machine.proofs.Traced.{traced-origin}
+use Rattle.ot_machine.proofs.Kept.{lists, article-kept, of-kept, origin-kept, traces-grow, grows-on}
+use Rattle.ot_machine.proofs.Traced.{traced-article, traced-of, traced-origin}
 use Rattle.ot_machine.proofs.InContext.{context-kept, of_context-kept}
 use Rattle.ot_machine.proofs.Turning.{state-defined, refused-turn, list_stated-same, const_list-read}
 use Rattle.ot_machine.proofs.rows.definitions.define_const_list.Goals as goal
@@ -76,23 +78,45 @@ list_definition-requires-clause-variables c =
 pub list_definition-requires-clause-context : goal.list_definition-requires-clause-context
 list_definition-requires-clause-context c =
     of_context-kept c.args.session.now c.symbol_list_step.new.self c.requires.of.run
-    (traces-grow _ _ _ c.in_ok-step.ensures.kept) c.args.context.now c.requires.context
+    (traces-grow _ _ c.in_ok-step.ensures.kept) c.args.context.now c.requires.context
 
 pub list_definition-requires-clause-list_origin : goal.list_definition-requires-clause-list_origin
 list_definition-requires-clause-list_origin c =
     let s = c.args.session.now in
-    traced-origin s c.symbol_list_step.new.self c.constants.new.machine c.in_ok-constants.ensures.of
+    traced-origin s c.symbol_list_step.new.self c.requires.of.run
     c.in_ok-step.ensures.kept c.in_ok-list.list_step c.in_ok-list.ensures.step
     ∙ c.in_ok-list.ensures.origin
-    ∙ ap (λ a. origin_at 1 a.stack) (sym (c.in_ok-step.ensures.kept.article ∙ c.in_ok-constants.ensures.kept))
+    ∙ ap (λ a. origin_at 1 a.stack)
+    (sym (traced-article s _ _ c.in_ok-constants.ensures.of c.in_ok-step.ensures.kept
+    ∙ c.in_ok-constants.ensures.kept))
 
 pub list_definition-requires-clause-premise_origin : goal.list_definition-requires-clause-premise_origin
 list_definition-requires-clause-premise_origin c =
     let s = c.args.session.now in
-    traced-origin s c.symbol_list_step.new.self c.constants.new.machine c.in_ok-constants.ensures.of
+    traced-origin s c.symbol_list_step.new.self c.requires.of.run
     c.in_ok-step.ensures.kept c.in_ok-premise.premise_step c.in_ok-premise.ensures.step
     ∙ c.in_ok-premise.ensures.origin
-    ∙ ap (λ a. origin_at 0 a.stack) (sym (c.in_ok-step.ensures.kept.article ∙ c.in_ok-constants.ensures.kept))
+    ∙ ap (λ a. origin_at 0 a.stack)
+    (sym (traced-article s _ _ c.in_ok-constants.ensures.of c.in_ok-step.ensures.kept
+    ∙ c.in_ok-constants.ensures.kept))
+
+pub returns-in_err-step : goal.returns-in_err-step
+returns-in_err-step c =
+    let s = c.args.session.now in
+    let m = c.args.machine.now in
+    let t = c.symbol_list_step.new.self in
+    let made = c.constants.new.machine in
+    let of = c.in_ok-constants.ensures.of in
+    let kept = c.in_err-step.ensures.kept in
+    refused-turn _ (code.Memory ran_out) _ s m t made (search rules)
+    (λ i. record { article = (traced-article s t made of kept ∙ c.in_ok-constants.ensures.kept) i; run = kept.run i })
+    (tt, λ f e. cc) (traces-grow s t kept) (traced-of s t made of kept)
+
+pub exchange-requires-clause-of : goal.exchange-requires-clause-of
+exchange-requires-clause-of c =
+    let adds = c.in_ok-theorem.ensures.adds in
+    of-kept c.args.session.now c.list_definition.new.self c.constants.new.machine c.in_ok-constants.ensures.of
+    (grows-on (traces-grow _ _ c.in_ok-step.ensures.kept) adds.grown) adds.is_run
 
 pub returns-in_err-theorem : goal.returns-in_err-theorem
 returns-in_err-theorem c =
@@ -104,8 +128,10 @@ returns-in_err-theorem c =
     let made = c.constants.new.machine in
     let st = machine_state s m in
     let traced = c.in_ok-step.ensures.kept in
-    let grown = traces-grow s t0 made traced in
+    let grown = traces-grow s t0 traced in
     let there = c.in_err-theorem.ensures in
+    let of = c.in_ok-constants.ensures.of in
+    let all = grows-on grown there.adds.grown in
     let is = c.deref-5.result.now in
     let vs = c.deref-6.result.now in
     let context = context_of s c.args.context.now in
@@ -117,10 +143,10 @@ returns-in_err-theorem c =
     ∙ ap (map variable_of) c.deref-2.ensures.value)) in
     let same = list_stated-same s t0 m made c.args.context.now is vs c.in_ok-premise.premise traced.kernel
     (context-kept s t0 c.requires.of.run grown c.args.context.now c.requires.context)
-    (traced.article ∙ c.in_ok-constants.ensures.kept) traced.run in
+    (traced-article s t0 made of traced ∙ c.in_ok-constants.ensures.kept) traced.run in
     refused-turn _ c.in_err-theorem.field-0.0 (define_const_list_row context) s m t made (search rules)
     (λ i. record {
-      article = (there.adds.article ∙ traced.article ∙ c.in_ok-constants.ensures.kept) i;
+      article = (article-kept s t made of all ∙ c.in_ok-constants.ensures.kept) i;
       run = (there.adds.refused ∙ traced.run) i;
     }) (
       there.made.0,
@@ -128,7 +154,7 @@ returns-in_err-theorem c =
           ∙ ap (λ r. r >>= λ d. Ok (with_defined 2 (constants_entry (map (name_at k) is) ∷ []) d st))
           (sym same ∙ there.made.1 f p),
     )
-    (grows-on grown there.adds.grown) there.adds.of
+    all (of-kept s t made of all there.adds.is_run)
 
 pub returns : goal.returns
 returns c =
@@ -140,8 +166,10 @@ returns c =
     let made = c.constants.new.machine in
     let st = machine_state s m in
     let traced = c.in_ok-step.ensures.kept in
-    let grown = traces-grow s t0 made traced in
+    let grown = traces-grow s t0 traced in
     let there = c.in_ok-theorem.ensures in
+    let of = c.in_ok-constants.ensures.of in
+    let all = grows-on grown there.adds.grown in
     let is = c.deref-5.result.now in
     let vs = c.deref-6.result.now in
     let ns = map (name_at k) is in
@@ -154,7 +182,7 @@ returns c =
     ∙ ap (map variable_of) c.deref-2.ensures.value)) in
     let same = list_stated-same s t0 m made c.args.context.now is vs c.in_ok-premise.premise traced.kernel
     (context-kept s t0 c.requires.of.run grown c.args.context.now c.requires.context)
-    (traced.article ∙ c.in_ok-constants.ensures.kept) traced.run in
+    (traced-article s t0 made of traced ∙ c.in_ok-constants.ensures.kept) traced.run in
     let q : Entry =
     record {
       object = theorem (theorem_at t.kernel c.in_ok-theorem.theorem);
@@ -162,17 +190,17 @@ returns c =
     } in
     let constants =
     ap (λ cs. list_at cs c.in_ok-constants.constants)
-    (lists s t made c.in_ok-constants.ensures.of (grows-on grown there.adds.grown)) ∙ c.in_ok-constants.ensures.made
+    (lists s t made of all) ∙ c.in_ok-constants.ensures.made
     ∙ ap (λ is. constants_of (map (name_at k) is)) (c.deref-3.ensures.value ∙ sym c.deref-5.ensures.value) in
-    let origin = origin-kept t0 t traced.of.run there.adds.grown c.in_ok-step.step c.in_ok-step.ensures.inside
+    let origin = origin-kept t0 t traced.is_run there.adds.grown c.in_ok-step.step c.in_ok-step.ensures.inside
     ∙ c.in_ok-step.ensures.made ∙ constants-listed _ _
     ∙ ap (λ is. constants_origin (map (name_at k) is)) (c.deref-4.ensures.value ∙ sym c.deref-5.ensures.value) in
     record {
       moves = row
           ∙ ap (λ r. r >>= λ d. Ok (with_defined 2 (constants_entry ns ∷ []) d st)) (sym same ∙ there.made)
           ∙ ap Ok (state-defined s t m made c.exchange.new.machine 2 _ (constants_entry ns ∷ []) (q ∷ [])
-          (there.adds.article ∙ traced.article ∙ c.in_ok-constants.ensures.kept) c.exchange.ensures.changed
+          (article-kept s t made of all ∙ c.in_ok-constants.ensures.kept) c.exchange.ensures.changed
           (λ i. record { object = list (constants i); origin = origin i } ∷ q ∷ []));
-      grown = grows-on grown there.adds.grown;
+      grown = all;
       of = c.exchange.ensures.of;
     }

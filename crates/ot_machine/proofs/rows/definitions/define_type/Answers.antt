@@ -9,6 +9,7 @@ use Rattle.ot_machine.specs.Defining.{operator_theorems}
 use Rattle.ot_machine.specs.Meaning.{origin_of, machine_state, version_of}
 use Rattle.ot_machine.specs.Contexts.{context_of}
 use Rattle.ot_machine.specs.Step.{define_type_row}
+use Rattle.ot_machine.proofs.Kept.{article-kept, of-kept}
 use Rattle.ot_machine.proofs.Turning.{name-kept, state-defined, refused-turn, type_op_after, type_op-read}
 use Rattle.ot_machine.proofs.rows.definitions.define_type.Goals as goal
 use Rattle.ot_machine.proofs.rows.definitions.define_type.Goals.{After-deref}
@@ -46,11 +47,19 @@ returns-in_err-defined c =
     refused-turn _ c.in_err-defined.field-0.0
     (define_type_row (version_of c.args.version) (context_of s c.args.context.now)) s m c.type_definition.new.self m
     (search rules)
-    (λ i. record { article = there.adds.article i; run = there.adds.refused i }) (
+    (λ i. record {
+      article = article-kept s c.type_definition.new.self m c.requires.of there.adds.grown i;
+      run = there.adds.refused i;
+    }) (
       there.made.0,
       λ f p. read at ∙ ap (λ r. r >>= λ d. Ok (with_defined 5 (Symbols at) d (machine_state s m))) (there.made.1 f p),
     )
-    there.adds.grown there.adds.of
+    there.adds.grown (of-kept s c.type_definition.new.self m c.requires.of there.adds.grown there.adds.is_run)
+
+pub exchange-requires-clause-of : goal.exchange-requires-clause-of
+exchange-requires-clause-of c =
+    let adds = c.in_ok-defined.ensures.adds in
+    of-kept c.args.session.now c.type_definition.new.self c.args.machine.now c.requires.of adds.grown adds.is_run
 
 pub returns : goal.returns
 returns c =
@@ -71,7 +80,7 @@ returns c =
     record {
       moves = read at ∙ ap (λ r. r >>= λ d. Ok (with_defined 5 (Symbols at) d (machine_state s m))) there.made
           ∙ ap Ok (state-defined s t m m c.exchange.new.machine 5 _ (Symbols at) (operator_theorems t d)
-          there.adds.article
+          (article-kept s t m c.requires.of there.adds.grown)
           c.exchange.ensures.changed
           (λ i.
           record { object = type_op (name i); origin = there.operator.op i }

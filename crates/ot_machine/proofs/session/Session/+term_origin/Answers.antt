@@ -46,7 +46,7 @@ term_origin-returns-clause-known t c =
     let grown = c.in_ok-step.ensures.kept.grown in
     let inside = c.in_ok-binders.ensures.inside in
     let items = c.in_ok-binders.binders.items in
-    let bs = binders-later s u grown c.requires.of.run items inside in
+    let bs = binders-later s u grown c.requires.run items inside in
     let here = named-later s u grown c.args.id c.requires.id in
     record {
       types = c.in_ok-step.ensures.known.types;
@@ -76,8 +76,8 @@ pub node_origin-returns-in_ok-made_of-in-Var-clause-known : goal.node_origin-ret
 node_origin-returns-in_ok-made_of-in-Var-clause-known t c =
     let t1 = c.variable_origin.new.self in
     let t2 = c.made_of.new.self in
-    known-later t1 t2 (traces-grow t1 t2 c.args.machine.now c.in_ok-made_of-in-Var.ensures.kept)
-    c.in_ok-variable-in-Var.ensures.kept.of.run c.variable_origin.new.known c.in_ok-variable-in-Var.ensures.known
+    known-later t1 t2 (traces-grow t1 t2 c.in_ok-made_of-in-Var.ensures.kept)
+    c.in_ok-variable-in-Var.ensures.kept.is_run c.variable_origin.new.known c.in_ok-variable-in-Var.ensures.known
 
 -- ---- a constant
 pub node_origin-returns-in_ok-constant_step-in-Const-clause-made : goal.node_origin-returns-in_ok-constant_step-in-Const-clause-made
@@ -93,17 +93,16 @@ node_origin-returns-in_ok-constant_step-in-Const-clause-made t c =
 pub node_origin-returns-in_ok-constant_step-in-Const-clause-known : goal.node_origin-returns-in_ok-constant_step-in-Const-clause-known
 node_origin-returns-in_ok-constant_step-in-Const-clause-known t c =
     let s = c.args.self.now in
-    let m = c.args.machine.now in
     let t1 = c.type_origin.new.self in
     let t2 = c.constant_step.new.self in
     let one = c.in_ok-ty-in-Const.ensures.kept in
     let two = c.in_ok-constant_step-in-Const.ensures.kept in
     record {
-      types = types-later t1 t2 (traces-grow t1 t2 m two) one.of.run c.type_origin.new.known.entries
+      types = types-later t1 t2 (traces-grow t1 t2 two) one.is_run c.type_origin.new.known.entries
           c.in_ok-ty-in-Const.ensures.known;
-      terms = terms-later s t2 (traces-grow s t2 m (traces-on s t1 t2 m one two)) c.requires.of.run
+      terms = terms-later s t2 (traces-grow s t2 (traces-on s t1 t2 one two)) c.requires.run
           c.args.known.now.terms.entries c.requires.known.terms;
-      free = occurrences-later s.kernel t2.kernel (traces-grow s t2 m (traces-on s t1 t2 m one two)).kernel
+      free = occurrences-later s.kernel t2.kernel (traces-grow s t2 (traces-on s t1 t2 one two)).kernel
           c.args.known.now.free.entries c.requires.known.free;
     }
 
@@ -117,9 +116,9 @@ node_origin-returns-in_ok-made_of-in-App-clause-made t c =
     let two = c.in_ok-x-in-App.ensures.kept in
     let tree = rw c.in-App.is at c.term_node.ensures.tree in
     let below = rw c.in-App.is at c.term_node.ensures.inside in
-    let bs = binders-later s t1 one.grown c.requires.of.run c.args.binders.now c.requires.binders in
+    let bs = binders-later s t1 one.grown c.requires.run c.args.binders.now c.requires.binders in
     let x = named-later s t1 one.grown c.in-App.x (omega (arith, below.1, c.requires.id)) in
-    let left = origin-kept t1 t2 one.of.run two.grown c.in_ok-f-in-App.f c.in_ok-f-in-App.ensures.inside
+    let left = origin-kept t1 t2 one.is_run two.grown c.in_ok-f-in-App.f c.in_ok-f-in-App.ensures.inside
     ∙ c.in_ok-f-in-App.ensures.made in
     let right = c.in_ok-x-in-App.ensures.made ∙ (λ i. canon_in c.args.depth (bs i) (x i)) in
     c.in_ok-made_of-in-App.ensures.made ∙ (λ i. app (left i) (right i))
@@ -129,14 +128,13 @@ pub node_origin-returns-in_ok-made_of-in-App-clause-known : goal.node_origin-ret
 node_origin-returns-in_ok-made_of-in-App-clause-known t c =
     let t2 = c.term_origin-in-App.new.self in
     let t3 = c.made_of-in-App.new.self in
-    known-later t2 t3 (traces-grow t2 t3 c.args.machine.now c.in_ok-made_of-in-App.ensures.kept)
-    c.in_ok-x-in-App.ensures.kept.of.run c.term_origin-in-App.new.known c.in_ok-x-in-App.ensures.known
+    known-later t2 t3 (traces-grow t2 t3 c.in_ok-made_of-in-App.ensures.kept)
+    c.in_ok-x-in-App.ensures.kept.is_run c.term_origin-in-App.new.known c.in_ok-x-in-App.ensures.known
 
 -- ---- an abstraction
 pub node_origin-returns-in_ok-made_of-in-Abs-clause-made : goal.node_origin-returns-in_ok-made_of-in-Abs-clause-made
 node_origin-returns-in_ok-made_of-in-Abs-clause-made t c =
     let s = c.args.self.now in
-    let m = c.args.machine.now in
     let t1 = c.type_origin-in-Abs.new.self in
     let t2 = c.binder_step.new.self in
     let t3 = c.term_origin-in-Abs.new.self in
@@ -151,12 +149,12 @@ node_origin-returns-in_ok-made_of-in-Abs-clause-made t c =
     c.in_ok-ty-in-Abs.ensures.made in
     let n = name-later s t2 grown v.name below.0.0 in
     let y = type-later s t2 grown v.ty below.0.1 in
-    let rest = binders-later s t2 grown c.requires.of.run c.args.binders.now c.requires.binders in
+    let rest = binders-later s t2 grown c.requires.run c.args.binders.now c.requires.binders in
     let items = c.deref.ensures.value ∙ c.in_ok-inner-in-Abs.ensures in
     let bs = ap (binders_at t2) items ∙ (λ i. (record { name = n i; ty = y i }, step i) ∷ rest i) in
     let b = named-later s t2 grown c.in-Abs.body (omega (arith, below.1, c.requires.id)) in
     let deeper : c.args.depth + 1 ≡ suc c.args.depth = omega arith in
-    let binder = origin-kept t2 t3 two.of.run three.grown c.in_ok-step-in-Abs.step c.in_ok-step-in-Abs.ensures.inside
+    let binder = origin-kept t2 t3 two.is_run three.grown c.in_ok-step-in-Abs.step c.in_ok-step-in-Abs.ensures.inside
     ∙ step in
     let inner = c.in_ok-body-in-Abs.ensures.made ∙ (λ i. canon_in (deeper i) (bs i) (b i)) in
     c.in_ok-made_of-in-Abs.ensures.made ∙ (λ i. lam (binder i) (inner i))
@@ -166,13 +164,12 @@ pub node_origin-returns-in_ok-made_of-in-Abs-clause-known : goal.node_origin-ret
 node_origin-returns-in_ok-made_of-in-Abs-clause-known t c =
     let t3 = c.term_origin-in-Abs.new.self in
     let t4 = c.made_of-in-Abs.new.self in
-    known-later t3 t4 (traces-grow t3 t4 c.args.machine.now c.in_ok-made_of-in-Abs.ensures.kept)
-    c.in_ok-body-in-Abs.ensures.kept.of.run c.term_origin-in-Abs.new.known c.in_ok-body-in-Abs.ensures.known
+    known-later t3 t4 (traces-grow t3 t4 c.in_ok-made_of-in-Abs.ensures.kept)
+    c.in_ok-body-in-Abs.ensures.kept.is_run c.term_origin-in-Abs.new.known c.in_ok-body-in-Abs.ensures.known
 
 pub node_origin-term_origin-requires-in-Abs : goal.node_origin-term_origin-requires-in-Abs
 node_origin-term_origin-requires-in-Abs t c =
     let s = c.args.self.now in
-    let m = c.args.machine.now in
     let t1 = c.type_origin-in-Abs.new.self in
     let t2 = c.binder_step.new.self in
     let one = c.in_ok-ty-in-Abs.ensures.kept in
@@ -184,7 +181,7 @@ node_origin-term_origin-requires-in-Abs t c =
     let here : IsBinderIn t2 binder = (key-later s t2 grown c.in-Abs.v below.0, c.in_ok-step-in-Abs.ensures.inside) in (
       omega (arith, c.decreases, below.1),
       (
-        two.of,
+        two.is_run,
         (
           omega (arith, below.1, c.requires.id, grown.kernel.terms.longer),
           (
@@ -194,9 +191,9 @@ node_origin-term_origin-requires-in-Abs t c =
                   (All-cons (IsBinderIn t2) binder c.args.binders.now here
                   (binders-inside s t2 grown c.args.binders.now c.requires.binders)),
               record {
-                types = types-later t1 t2 two.grown one.of.run c.type_origin-in-Abs.new.known.entries
+                types = types-later t1 t2 two.grown one.is_run c.type_origin-in-Abs.new.known.entries
                     c.in_ok-ty-in-Abs.ensures.known;
-                terms = terms-later s t2 grown c.requires.of.run c.args.known.now.terms.entries
+                terms = terms-later s t2 grown c.requires.run c.args.known.now.terms.entries
                     c.requires.known.terms;
                 free = occurrences-later s.kernel t2.kernel grown.kernel c.args.known.now.free.entries
                     c.requires.known.free;

@@ -39,13 +39,13 @@ type_node_origin-types_origin-requires t c =
     let items = c.deref.ensures.value ∙ c.in_ok-args-in-Op.ensures.items ∙ c.as_slice.ensures in (
       omega (arith, c.decreases),
       (
-        kept.of,
+        kept.is_run,
         (
           subst (λ k. c.args.id < length k.types) (sym kept.kernel) c.requires.id,
           (
             subst (All (λ i. i < c.args.id)) (sym items) inside.1,
             types-later s u
-                (traces-grow s u c.args.machine.now kept) c.requires.of.run c.args.known.now.entries c.requires.known,
+                (traces-grow s u kept) c.requires.run c.args.known.now.entries c.requires.known,
           ),
         ),
       ),
@@ -55,13 +55,12 @@ pub type_node_origin-returns-in_ok-step-in-Var-clause-known : goal.type_node_ori
 type_node_origin-returns-in_ok-step-in-Var-clause-known t c =
     let s = c.args.self.now in
     let u = c.symbol_steps.new.self in
-    types-later s u (traces-grow s u c.args.machine.now c.in_ok-step-in-Var.ensures.kept) c.requires.of.run
+    types-later s u (traces-grow s u c.in_ok-step-in-Var.ensures.kept) c.requires.run
     c.args.known.now.entries c.requires.known
 
 pub type_node_origin-returns-in_ok-made_of-in-Op-clause-made : goal.type_node_origin-returns-in_ok-made_of-in-Op-clause-made
 type_node_origin-returns-in_ok-made_of-in-Op-clause-made t c =
     let s = c.args.self.now in
-    let m = c.args.machine.now in
     let u = c.symbol_steps-in-Op.new.self in
     let w = c.types_origin.new.self in
     let one = c.in_ok-op-in-Op.ensures.kept in
@@ -69,8 +68,8 @@ type_node_origin-returns-in_ok-made_of-in-Op-clause-made t c =
     let node = c.in-Op.name in
     let tree = rw c.in-Op.is at c.type_node.ensures.tree in
     let items = c.deref.ensures.value ∙ c.in_ok-args-in-Op.ensures.items ∙ c.as_slice.ensures in
-    let op = traced-origin u w m one.of two c.in_ok-op-in-Op.op c.in_ok-op-in-Op.ensures.symbol_step
-    ∙ origin-number s u m one c.in_ok-op-in-Op.op (type_op_origin (Named node)) c.in_ok-op-in-Op.ensures.symbol in
+    let op = traced-origin u w one.is_run two c.in_ok-op-in-Op.op c.in_ok-op-in-Op.ensures.symbol_step
+    ∙ origin-number s u one c.in_ok-op-in-Op.op (type_op_origin (Named node)) c.in_ok-op-in-Op.ensures.symbol in
     let list = c.in_ok-list-in-Op.ensures.made ∙ (λ i. canon_tys (types_at (one.kernel i) (items i))) in
     c.in_ok-made_of-in-Op.ensures.made ∙ (λ i. make_two words.OpType (op i) (list i)) ∙ ap canon_ty (sym tree)
 
@@ -78,8 +77,8 @@ pub type_node_origin-returns-in_ok-made_of-in-Op-clause-known : goal.type_node_o
 type_node_origin-returns-in_ok-made_of-in-Op-clause-known t c =
     let w = c.types_origin.new.self in
     let u = c.made_of.new.self in
-    types-later w u (traces-grow w u c.args.machine.now c.in_ok-made_of-in-Op.ensures.kept)
-    c.in_ok-list-in-Op.ensures.kept.of.run c.types_origin.new.known.entries c.in_ok-list-in-Op.ensures.known
+    types-later w u (traces-grow w u c.in_ok-made_of-in-Op.ensures.kept)
+    c.in_ok-list-in-Op.ensures.kept.is_run c.types_origin.new.known.entries c.in_ok-list-in-Op.ensures.known
 
 pub types_origin-types-init : goal.types_origin-types-init
 types_origin-types-init t c =
@@ -87,8 +86,8 @@ types_origin-types-init t c =
     let kept = c.in_ok-list.ensures.kept in
     record {
       kept = kept;
-      known = types-later s c.made_of.new.self (traces-grow s c.made_of.new.self c.args.machine.now kept)
-          c.requires.of.run c.args.known.now.entries c.requires.known;
+      known = types-later s c.made_of.new.self (traces-grow s c.made_of.new.self kept)
+          c.requires.run c.args.known.now.entries c.requires.known;
       inside = c.in_ok-list.ensures.inside;
       below = c.requires.below;
       so_far = ap (list_onto (map (λ i. canon_ty (type_at s.kernel i)) c.args.ids.now)) c.in_ok-list.ensures.made
@@ -103,7 +102,7 @@ types_origin-type_origin-requires t c =
     let low = All-last P c.in-Some.front.now c.in-Some.id.now (subst (All P) split c.types.invariant.below) in (
       omega (arith, c.decreases, low),
       (
-        kept.of,
+        kept.is_run,
         (
           omega (arith, low, subst (λ k. c.args.bound < length k.types) (sym kept.kernel) c.requires.bound),
           c.types.invariant.known,
@@ -113,7 +112,7 @@ types_origin-type_origin-requires t c =
 
 pub types_origin-returns-in_err-head-clause-kept : goal.types_origin-returns-in_err-head-clause-kept
 types_origin-returns-in_err-head-clause-kept t c = traces-on c.args.self.now c.types.self c.type_origin.new.self
-    c.args.machine.now c.types.invariant.kept c.in_err-head.ensures.kept
+    c.types.invariant.kept c.in_err-head.ensures.kept
 
 pub types_origin-made_of-requires-in-Some-clause-inside : goal.types_origin-made_of-requires-in-Some-clause-inside
 types_origin-made_of-requires-in-Some-clause-inside t c =
@@ -125,16 +124,14 @@ types_origin-made_of-requires-in-Some-clause-inside t c =
 pub types_origin-returns-in_err-list-2-clause-kept : goal.types_origin-returns-in_err-list-2-clause-kept
 types_origin-returns-in_err-list-2-clause-kept t c =
     let s = c.args.self.now in
-    let m = c.args.machine.now in
-    traces-on s c.type_origin.new.self c.made_of-in-Some.new.self m
-    (traces-on s c.types.self c.type_origin.new.self m c.types.invariant.kept c.in_ok-head.ensures.kept)
+    traces-on s c.type_origin.new.self c.made_of-in-Some.new.self
+    (traces-on s c.types.self c.type_origin.new.self c.types.invariant.kept c.in_ok-head.ensures.kept)
     c.in_err-list-2.ensures.kept
 
 pub types_origin-types-preserved : goal.types_origin-types-preserved
 types_origin-types-preserved t c =
     let s = c.args.self.now in
     let k = s.kernel in
-    let m = c.args.machine.now in
     let t0 = c.types.self in
     let t1 = c.type_origin.new.self in
     let t2 = c.made_of-in-Some.new.self in
@@ -147,10 +144,10 @@ types_origin-types-preserved t c =
     let id = c.in-Some.id.now in
     let at = λ (i : ℕ). canon_ty (type_at k i) in
     let head = c.in_ok-head.ensures.made ∙ ap (λ k. canon_ty (type_at k id)) before.kernel in
-    let list = traced-origin t0 t1 m before.of one c.types.list c.types.invariant.inside in
+    let list = traced-origin t0 t1 before.is_run one c.types.list c.types.invariant.inside in
     record {
-      kept = traces-on s t1 t2 m (traces-on s t0 t1 m before one) two;
-      known = types-later t1 t2 (traces-grow t1 t2 m two) one.of.run c.type_origin.new.known.entries
+      kept = traces-on s t1 t2 (traces-on s t0 t1 before one) two;
+      known = types-later t1 t2 (traces-grow t1 t2 two) one.is_run c.type_origin.new.known.entries
           c.in_ok-head.ensures.known;
       inside = c.in_ok-list-2.ensures.inside;
       below = subst (All P) (take_at front (id ∷ []) _ refl)

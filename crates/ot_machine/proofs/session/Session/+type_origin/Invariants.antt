@@ -18,7 +18,7 @@ decreases-types_origin l = 3 * l.bound
 
 abbrev pub invariant-types_origin-types : goal.invariant-types_origin-types
 invariant-types_origin-types l = record {
-  kept : Traces l.fn.self l.self l.machine;
+  kept : Traces l.fn.self l.self;
   known : AreTypes l.self l.known.entries;
   inside : l.list < length l.self.trace;
   below : All (λ i. i < l.fn.bound) l.rest;

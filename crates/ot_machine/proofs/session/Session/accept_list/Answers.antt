@@ -20,7 +20,7 @@ Rule c ds =
     (theorem_at k c.args.premise)
 
 pub returns-in_err-push-clause-adds : goal.returns-in_err-push-clause-adds
-returns-in_err-push-clause-adds c = stays-adds _ (stays-beside _ _ _ _ c.requires.of refl c.in_err-push.ensures.items)
+returns-in_err-push-clause-adds c = stays-adds _ (stays-beside _ _ _ c.requires.run refl c.in_err-push.ensures.items)
 
 pub returns-in-Ok : goal.returns-in-Ok
 returns-in-Ok c =
@@ -32,11 +32,11 @@ returns-in-Ok c =
     let theorems = list-theorem k l (map (name_at k) c.args.constants.now) (map (variable_at k) c.args.variables.now)
     (theorem_at k c.args.premise) a.0 c.in-Ok.theorem a.1 a.3 a.4 in
     record {
-      made = defined-is s l s.assumption_steps c.push.new.self c.args.machine.now c.requires.of keeps a.0
+      made = defined-is s l s.assumption_steps c.push.new.self c.requires.run keeps a.0
           c.args.definition c.requires.definition a.2 a.5 refl c.in_ok-push.ensures.items
           (Rule (goal.at.returns-in-Ok c).Start) _ a.1 theorems.0;
       theorem = theorems.1;
-      adds = defined-adds s l s.assumption_steps c.push.new.self c.args.machine.now c.requires.of keeps a.0
+      adds = defined-adds s l s.assumption_steps c.push.new.self c.requires.run keeps a.0
           c.args.definition c.requires.definition a.2 a.5 refl c.in_ok-push.ensures.items _ tt;
     }
 
@@ -46,12 +46,12 @@ returns-in-Err c =
     let s = c.args.self.now in
     let l = c.define_list.new.self in
     let there = c.in-Err.ensures.defines in
-    let stays = stays-with s l s.assumption_steps c.pop.new.self c.args.machine.now c.requires.of
+    let stays = stays-with s l s.assumption_steps c.pop.new.self c.requires.run
     c.define_list.ensures.keeps there.0.basis refl
     (popped _ c.push.new.self _ _ c.in_ok-push.ensures.items c.pop.ensures.rest) in
     record {
       made = rw c.from.ensures
-          (refused-definition s l c.requires.of.run (Rule (goal.at.returns-in-Err c).Start) c.args.definition _
+          (refused-definition s l c.requires.run (Rule (goal.at.returns-in-Err c).Start) c.args.definition _
           there.1
           c.in-Err.ensures.symbols);
       theorem = tt;

@@ -38,7 +38,7 @@ typed c = (c.sound.ensures.theorems c.args.premise (record { hyps = []; concl = 
     c.requires.operands.premise).sequent.concl
 
 pub returns-in_err-push-clause-adds : goal.returns-in_err-push-clause-adds
-returns-in_err-push-clause-adds c = stays-adds _ (stays-beside _ _ _ _ c.requires.of refl c.in_err-push.ensures.items)
+returns-in_err-push-clause-adds c = stays-adds _ (stays-beside _ _ _ c.requires.run refl c.in_err-push.ensures.items)
 
 pub returns-in-Ok : goal.returns-in-Ok
 returns-in-Ok c =
@@ -46,7 +46,6 @@ returns-in-Ok c =
     let s = c.args.self.now in
     let k = s.kernel in
     let l = c.define_type_5.new.self in
-    let m = c.args.machine.now in
     let n = N at.Start in
     let b = B at.Start in
     let r = R at.Start in
@@ -58,20 +57,20 @@ returns-in-Ok c =
     let ty = typed at.After-sound in
     let taken = is-accepted k.definitions n b r vars q.hyps o q.concl a.0 ty a.1 in
     let keeps = c.define_type_5.ensures.keeps in
-    let closed = defined-is s l s.assumption_steps c.push.new.self m c.requires.of keeps a.0 j c.requires.definition
+    let closed = defined-is s l s.assumption_steps c.push.new.self c.requires.run keeps a.0 j c.requires.definition
     a.2 a.5 refl c.in_ok-push.ensures.items (λ ds. type_definition names ds n b r vars q) _ taken.accepted refl in
     let are = opened-are k l a.0 taken.first taken.second c.in-Ok.theorems.abs_open c.in-Ok.theorems.rep_open
     taken.are taken.two a.3 (ap (λ x. x.abs_open) a.4) (ap (λ x. x.rep_open) a.4) in
     let new = TyOp n (tys_of_vars names vars) in
     record {
-      made = stated-made s c.requires.of.run n b r vars q j ty a.0 _ a.1 closed
+      made = stated-made s c.requires.run n b r vars q j ty a.0 _ a.1 closed
           ∙ (λ i. Ok (
             open_entries (first_origin o b r new q.concl) (second_origin o b r new q.concl) (are.0 i) (are.1 i),
-            run_of (with_steps s l s.assumption_steps c.push.new.self m c.requires.of keeps),
+            run_of (with_steps s l s.assumption_steps c.push.new.self c.requires.run keeps),
           ));
       first = are.2;
       second = are.3;
-      adds = defined-adds s l s.assumption_steps c.push.new.self m c.requires.of keeps a.0 j c.requires.definition a.2
+      adds = defined-adds s l s.assumption_steps c.push.new.self c.requires.run keeps a.0 j c.requires.definition a.2
           a.5 refl c.in_ok-push.ensures.items _ tt;
     }
 
@@ -82,14 +81,14 @@ returns-in-Err c =
     let s = c.args.self.now in
     let l = c.define_type_5.new.self in
     let there = c.in-Err.ensures.defines in
-    let stays = stays-with s l s.assumption_steps c.pop.new.self c.args.machine.now c.requires.of
+    let stays = stays-with s l s.assumption_steps c.pop.new.self c.requires.run
     c.define_type_5.ensures.keeps there.0.basis refl
     (popped _ c.push.new.self _ _ c.in_ok-push.ensures.items c.pop.ensures.rest) in
     record {
       made = rw c.from.ensures
           (refuses-definition l _ _ (
             there.1.0,
-            λ f p. stated-refused s c.requires.of.run (N at.Start) (B at.Start) (R at.Start) (Vs at.Start)
+            λ f p. stated-refused s c.requires.run (N at.Start) (B at.Start) (R at.Start) (Vs at.Start)
                 (Q at.Start) c.args.definition (typed at.After-sound) f (there.1.1 f p),
           ) c.in-Err.ensures.symbols);
       first = tt;

@@ -11,9 +11,9 @@ use Rattle.ot_machine.specs.Rows.{theorem_entry}
 use Rattle.ot_machine.specs.Contexts.{given_of}
 use Rattle.ot_machine.specs.Meaning.{origin_of}
 use Rattle.ot_machine.specs.Stays.{Stays}
-use Rattle.ot_machine.proofs.Kept.{leaves, with_kernel}
+use Rattle.ot_machine.proofs.Kept.{kernel-stays, with_kernel}
 use Rattle.ot_machine.proofs.Refusals.{refused}
-use Rattle.ot_machine.proofs.Staying.{leaves-stay, stays-on, stays-origin, stays-theorem}
+use Rattle.ot_machine.proofs.Staying.{stays-on, stays-origin, stays-theorem}
 use Rattle.ot_machine.proofs.Weakening.{as_proof, adding-first, adding-second, adding-third, with-origin}
 use Rattle.ot_machine.proofs.session.Session.adding.Goals as goal
 use Rattle.ot_machine.proofs.session.Session.adding.Goals.{Start, After-assume-answer, In_ok-assumed}
@@ -22,25 +22,23 @@ use Rattle.ot_machine.proofs.session.Session.adding.Goals.{In_ok-equation, After
 
 -- ---- all stays in the session after each rule, and after its step
 one : (c : After-assume-answer)
-    → Stays c.args.self.now (with_kernel c.args.self.now c.assume-answer.new.self) c.args.machine.now
-one c = leaves-stay (leaves _ _ _ c.requires.of c.assume-answer.ensures.keeps c.assume-answer.ensures.same)
+    → Stays c.args.self.now (with_kernel c.args.self.now c.assume-answer.new.self)
+one c = kernel-stays _ _ c.requires.run c.assume-answer.ensures.keeps c.assume-answer.ensures.same
 
-two : (c : In_ok-assumed) → Stays c.args.self.now c.concluded.new.self c.args.machine.now
+two : (c : In_ok-assumed) → Stays c.args.self.now c.concluded.new.self
 two c = stays-on (one (goal.at.In_ok-assumed c).After-assume-answer) c.in_ok-assumed.ensures.stays
 
 three : (c : After-deduct_antisym-answer)
     → Stays c.concluded.new.self (with_kernel c.concluded.new.self c.deduct_antisym-answer.new.self)
-    c.args.machine.now
-three c = leaves-stay (leaves _ _ _ c.in_ok-assumed.ensures.stays.of c.deduct_antisym-answer.ensures.keeps
-    c.deduct_antisym-answer.ensures.same)
+three c = kernel-stays _ _ c.in_ok-assumed.ensures.stays.is_run c.deduct_antisym-answer.ensures.keeps
+    c.deduct_antisym-answer.ensures.same
 
-four : (c : In_ok-equation) → Stays c.concluded.new.self c.concluded-2.new.self c.args.machine.now
+four : (c : In_ok-equation) → Stays c.concluded.new.self c.concluded-2.new.self
 four c = stays-on (three (goal.at.In_ok-equation c).After-deduct_antisym-answer) c.in_ok-equation.ensures.stays
 
 five : (c : After-eq_mp-answer)
-    → Stays c.concluded-2.new.self (with_kernel c.concluded-2.new.self c.eq_mp-answer.new.self) c.args.machine.now
-five c = leaves-stay
-    (leaves _ _ _ c.in_ok-equation.ensures.stays.of c.eq_mp-answer.ensures.keeps c.eq_mp-answer.ensures.same)
+    → Stays c.concluded-2.new.self (with_kernel c.concluded-2.new.self c.eq_mp-answer.new.self)
+five c = kernel-stays _ _ c.in_ok-equation.ensures.stays.is_run c.eq_mp-answer.ensures.keeps c.eq_mp-answer.ensures.same
 
 -- ---- what the rules make
 abbrev Q : Start → Sequent Name
@@ -55,7 +53,7 @@ D c = theorem_at c.concluded-2.new.self.kernel c.in_ok-equation.equation.th
 antisym : (c : In_ok-assumed) → deduct_antisym_rule names (A c) (Q (goal.at.In_ok-assumed c).Start)
     ≡ deduct_antisym_rule names (A c) (theorem_at c.concluded.new.self.kernel c.args.given.th)
 antisym c = ap (deduct_antisym_rule names (A c))
-    (sym (stays-theorem _ _ _ c.requires.of (two c) c.args.given.th c.requires.theorem))
+    (sym (stays-theorem _ _ c.requires.run (two c) c.args.given.th c.requires.theorem))
 
 inside : (c : In_ok-assumed) → c.in_ok-assumed.assumed.th < length c.concluded.new.self.kernel.theorems
 inside c = c.in_ok-assumed.ensures.theorem _ _ c.assume-answer.ensures.concludes
@@ -101,20 +99,20 @@ returns-clause-made c =
     let t = c.concluded-3.new.self in
     let here = three at.After-deduct_antisym-answer in
     let last = five at.After-eq_mp-answer in
-    let of2 = c.in_ok-assumed.ensures.stays.of in
+    let of2 = c.in_ok-assumed.ensures.stays.is_run in
     let step = c.in_ok-assumed.assumed.step in
     let assumed = c.in_ok-assumed.ensures.origin
     ∙ ap (make_one words.Assume)
-    (stays-origin _ _ _ c.requires.of (one at.After-assume-answer) c.args.step c.requires.step) in
-    let first = stays-origin _ _ _ of2 here step c.in_ok-assumed.ensures.step ∙ assumed in
-    let given = stays-origin _ _ _ c.requires.of (stays-on (two at.In_ok-assumed) here) c.args.given.step
+    (stays-origin _ _ c.requires.run (one at.After-assume-answer) c.args.step c.requires.step) in
+    let first = stays-origin _ _ of2 here step c.in_ok-assumed.ensures.step ∙ assumed in
+    let given = stays-origin _ _ c.requires.run (stays-on (two at.In_ok-assumed) here) c.args.given.step
     c.requires.given_step in
-    let equation = stays-origin _ _ _ c.in_ok-equation.ensures.stays.of last c.in_ok-equation.equation.step
+    let equation = stays-origin _ _ c.in_ok-equation.ensures.stays.is_run last c.in_ok-equation.equation.step
     c.in_ok-equation.ensures.step ∙ c.in_ok-equation.ensures.origin
     ∙ (λ i. make_two words.DeductAntisym (first i) (given i)) in
-    let second = stays-origin _ _ _ of2 (stays-on (four at.In_ok-equation) last) step c.in_ok-assumed.ensures.step
+    let second = stays-origin _ _ of2 (stays-on (four at.In_ok-equation) last) step c.in_ok-assumed.ensures.step
     ∙ assumed in
-    let kept = stays-theorem _ _ _ of2 (four at.In_ok-equation) c.in_ok-assumed.assumed.th
+    let kept = stays-theorem _ _ of2 (four at.In_ok-equation) c.in_ok-assumed.assumed.th
     (inside at.In_ok-assumed) in
     let rule = eq_mp_rule names (D at.In_ok-equation) (theorem_at c.concluded-2.new.self.kernel
     c.in_ok-assumed.assumed.th) in
@@ -139,11 +137,11 @@ returns-clause-stays c =
     c.concluded-3.ensures.stays
 
 -- ---- what the calls ask
-pub concluded-requires-clause-of : goal.concluded-requires-clause-of
-concluded-requires-clause-of c = (one (goal.at.concluded-requires-clause-of c).After-assume-answer).of
+pub concluded-requires-clause-run : goal.concluded-requires-clause-run
+concluded-requires-clause-run c = (one (goal.at.concluded-requires-clause-run c).After-assume-answer).is_run
 
-pub concluded-requires-2-clause-of : goal.concluded-requires-2-clause-of
-concluded-requires-2-clause-of c = (three (goal.at.concluded-requires-2-clause-of c).After-deduct_antisym-answer).of
+pub concluded-requires-2-clause-run : goal.concluded-requires-2-clause-run
+concluded-requires-2-clause-run c = (three (goal.at.concluded-requires-2-clause-run c).After-deduct_antisym-answer).is_run
 
-pub concluded-requires-3-clause-of : goal.concluded-requires-3-clause-of
-concluded-requires-3-clause-of c = (five (goal.at.concluded-requires-3-clause-of c).After-eq_mp-answer).of
+pub concluded-requires-3-clause-run : goal.concluded-requires-3-clause-run
+concluded-requires-3-clause-run c = (five (goal.at.concluded-requires-3-clause-run c).After-eq_mp-answer).is_run

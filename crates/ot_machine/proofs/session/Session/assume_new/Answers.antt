@@ -7,7 +7,7 @@ use Rattle.ot_machine.specs.Meaning.{run_of, origin_of}
 use Rattle.ot_machine.proofs.Staying.{stays-adds}
 use Rattle.ot_machine.proofs.Refusals.{refuses-rule}
 use Rattle.ot_machine.proofs.Stepped.{adds-with, stays-with, stays-beside, popped}
-use Rattle.ot_machine.proofs.Assuming.{known-new, assumed-of, assumed-made, once-is, new-refused, kernel-nowhere}
+use Rattle.ot_machine.proofs.Assuming.{known-new, assumed-is_run, assumed-made, once-is, new-refused, kernel-nowhere}
 use Rattle.ot_machine.proofs.session.Session.assume_new.Goals as goal
 use Rattle.ot_machine.proofs.session.Session.assume_new.Goals.{Start}
 
@@ -19,26 +19,25 @@ abbrev P : Start → Tm Name
 P c = term_at c.args.self.now.kernel c.args.concl
 
 pub returns-in_err-push-clause-adds : goal.returns-in_err-push-clause-adds
-returns-in_err-push-clause-adds c = stays-adds _ (stays-beside _ _ _ _ c.requires.of c.in_err-push.ensures.items refl)
+returns-in_err-push-clause-adds c = stays-adds _ (stays-beside _ _ _ c.requires.run c.in_err-push.ensures.items refl)
 
 pub returns-in-Ok : goal.returns-in-Ok
 returns-in-Ok c =
     let at = (goal.at.returns-in-Ok c).Start in
     let s = c.args.self.now in
     let l = c.axiom.new.self in
-    let m = c.args.machine.now in
     let keeps = c.axiom.ensures.keeps in
     let a = c.in-Ok.ensures.assumes in
     let new = known-new s.kernel.assumptions a.0
-    (kernel-nowhere s (Hyps at) (P at) a.0 c.requires.of.run (once-is (Hyps at) (P at) a.0 a.1) c.requires.new) in
+    (kernel-nowhere s (Hyps at) (P at) a.0 c.requires.run (once-is (Hyps at) (P at) a.0 a.1) c.requires.new) in
     record {
-      made = assumed-made s l c.push.new.self s.definition_steps m c.requires.of keeps a.0 c.args.step
+      made = assumed-made s l c.push.new.self s.definition_steps c.requires.run keeps a.0 c.args.step
           c.requires.step (a.4 ∙ new.1) a.5 c.in_ok-push.ensures.items refl (Hyps at) (P at) c.in-Ok.th a.1
           (a.3 ∙ new.0);
       theorem = a.2;
       step = c.requires.step;
-      adds = adds-with s l c.push.new.self s.definition_steps m c.requires.of keeps _ tt
-          (assumed-of s l c.push.new.self s.definition_steps m c.requires.of keeps a.0 c.args.step c.requires.step
+      adds = adds-with s l c.push.new.self s.definition_steps c.requires.run keeps _ tt
+          (assumed-is_run s l c.push.new.self s.definition_steps c.requires.run keeps a.0 c.args.step c.requires.step
           (a.4 ∙ new.1) a.5 c.in_ok-push.ensures.items refl);
     }
 
@@ -49,7 +48,7 @@ returns-in-Err c =
     let s = c.args.self.now in
     let l = c.axiom.new.self in
     let there = c.in-Err.ensures.assumes in
-    let stays = stays-with s l c.pop.new.self s.definition_steps c.args.machine.now c.requires.of
+    let stays = stays-with s l c.pop.new.self s.definition_steps c.requires.run
     c.axiom.ensures.keeps there.0.basis
     (popped _ c.push.new.self _ _ c.in_ok-push.ensures.items c.pop.ensures.rest) refl in
     record {

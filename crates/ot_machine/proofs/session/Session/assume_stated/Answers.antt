@@ -8,15 +8,19 @@ use Rattle.ot_machine.specs.Rows.{given_as, theorem_entry, origin_at}
 use Rattle.ot_machine.specs.Contexts.{given_of}
 use Rattle.ot_machine.specs.Meaning.{run_of, article_of, entry_of, lists_of, Traces}
 use Rattle.ot_machine.proofs.Staying.{traces-stay, stays-adds, adds-on}
-use Rattle.ot_machine.proofs.Traced.{traces-on, two-origins, traced-origin}
+use Rattle.ot_machine.proofs.Traced.{traces-on, two-origins, traced-article, traced-of, traced-origin}
 use Rattle.ot_machine.proofs.Taken.{stated, assumed-same}
 use Rattle.ot_machine.proofs.session.Session.assume_stated.Goals as goal
 use Rattle.ot_machine.proofs.session.Session.assume_stated.Goals.{In_ok-step}
 
-traced : (c : In_ok-step) → Traces c.args.self.now c.made_of.new.self c.args.machine.now
+traced : (c : In_ok-step) → Traces c.args.self.now c.made_of.new.self
 traced c =
-    traces-on _ _ _ _ (traces-on _ _ _ _ c.in_ok-upper.ensures.kept c.in_ok-lower.ensures.kept)
+    traces-on _ _ _ (traces-on _ _ _ c.in_ok-upper.ensures.kept c.in_ok-lower.ensures.kept)
     c.in_ok-step.ensures.kept
+
+pub operand_at-requires-2-clause-of : goal.operand_at-requires-2-clause-of
+operand_at-requires-2-clause-of c = traced-of c.args.self.now c.operand_at.new.self c.args.machine.now
+    c.requires.of c.in_ok-upper.ensures.kept
 
 pub assume_new-requires-clause-new : goal.assume_new-requires-clause-new
 assume_new-requires-clause-new c =
@@ -31,12 +35,12 @@ returns-in_err-upper-clause-adds c = stays-adds _ (traces-stay c.in_err-upper.en
 
 pub returns-in_err-lower-clause-adds : goal.returns-in_err-lower-clause-adds
 returns-in_err-lower-clause-adds c =
-    stays-adds _ (traces-stay (traces-on _ _ _ _ c.in_ok-upper.ensures.kept c.in_err-lower.ensures.kept))
+    stays-adds _ (traces-stay (traces-on _ _ _ c.in_ok-upper.ensures.kept c.in_err-lower.ensures.kept))
 
 pub returns-in_err-step-clause-adds : goal.returns-in_err-step-clause-adds
 returns-in_err-step-clause-adds c =
-    let two = traces-on _ _ _ _ c.in_ok-upper.ensures.kept c.in_ok-lower.ensures.kept in
-    stays-adds _ (traces-stay (traces-on _ _ _ _ two c.in_err-step.ensures.kept))
+    let two = traces-on _ _ _ c.in_ok-upper.ensures.kept c.in_ok-lower.ensures.kept in
+    stays-adds _ (traces-stay (traces-on _ _ _ two c.in_err-step.ensures.kept))
 
 pub returns-clause-adds : goal.returns-clause-adds
 returns-clause-adds c = adds-on _ _ (traces-stay (traced (goal.at.returns-clause-adds c).In_ok-step)) (λ e. e)
@@ -52,9 +56,10 @@ returns-clause-made c =
     omega (arith, c.requires.there, m.stack.ok.0, length-map m.stack.items (entry_of s (lists_of s m))) in
     let one = c.in_ok-upper.ensures.kept in
     let two = c.in_ok-lower.ensures.kept in
-    let upper = traced-origin c.operand_at.new.self c.operand_at-2.new.self m one.of two c.in_ok-upper.upper
+    let upper = traced-origin c.operand_at.new.self c.operand_at-2.new.self one.is_run two c.in_ok-upper.upper
     c.in_ok-upper.ensures.inside ∙ c.in_ok-upper.ensures.made in
-    let lower = c.in_ok-lower.ensures.made ∙ ap (λ a. origin_at 1 a.stack) one.article in
+    let lower = c.in_ok-lower.ensures.made
+    ∙ ap (λ a. origin_at 1 a.stack) (traced-article s c.operand_at.new.self m c.requires.of one) in
     let there = traced (goal.at.returns-clause-made c).In_ok-step in
     let origin = c.in_ok-step.ensures.made
     ∙ sym (ap (Make words.Axiom)

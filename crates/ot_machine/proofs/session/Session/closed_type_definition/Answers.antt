@@ -17,17 +17,17 @@ use Rattle.ot_machine.proofs.session.Session.closed_type_definition.Goals.{In_ok
 use Rattle.ot_machine.proofs.session.Session.closed_type_definition.Goals.{In_ok-rep_abs_step, In_ok-abs_rep}
 
 -- ---- the steps before the definition is accepted
-traced_first : (c : In_ok-abs_rep_step) → Traces c.args.self.now c.outcome_step.new.self c.args.machine.now
-traced_first c = traces-on _ _ _ _ c.in_ok-steps.ensures.kept c.in_ok-abs_rep_step.ensures.kept
+traced_first : (c : In_ok-abs_rep_step) → Traces c.args.self.now c.outcome_step.new.self
+traced_first c = traces-on _ _ _ c.in_ok-steps.ensures.kept c.in_ok-abs_rep_step.ensures.kept
 
-traced : (c : In_ok-rep_abs_step) → Traces c.args.self.now c.outcome_step-2.new.self c.args.machine.now
-traced c = traces-on _ _ _ _ (traced_first (goal.at.In_ok-rep_abs_step c).In_ok-abs_rep_step)
+traced : (c : In_ok-rep_abs_step) → Traces c.args.self.now c.outcome_step-2.new.self
+traced c = traces-on _ _ _ (traced_first (goal.at.In_ok-rep_abs_step c).In_ok-abs_rep_step)
     c.in_ok-rep_abs_step.ensures.kept
 
 later : (c : In_ok-rep_abs_step) → origin_of c.outcome_step-2.new.self c.in_ok-steps.steps.definition
     ≡ origin_of c.type_defining.new.self c.in_ok-steps.steps.definition
-later c = traced-origin _ _ _ c.in_ok-steps.ensures.kept.of
-    (traces-on _ _ _ _ c.in_ok-abs_rep_step.ensures.kept c.in_ok-rep_abs_step.ensures.kept)
+later c = traced-origin _ _ c.in_ok-steps.ensures.kept.is_run
+    (traces-on _ _ _ c.in_ok-abs_rep_step.ensures.kept c.in_ok-rep_abs_step.ensures.kept)
     c.in_ok-steps.steps.definition c.in_ok-steps.ensures.made.definition_step
 
 -- what is stated over them is what was stated at the start
@@ -50,7 +50,7 @@ same c =
 
 -- ---- what each step grew by until the end
 from_first : (c : In_ok-abs_rep) → Grows c.outcome_step.new.self c.accept_type.new.self
-from_first c = grows-on (traces-grow _ _ _ c.in_ok-rep_abs_step.ensures.kept) c.in_ok-abs_rep.ensures.adds.grown
+from_first c = grows-on (traces-grow _ _ c.in_ok-rep_abs_step.ensures.kept) c.in_ok-abs_rep.ensures.adds.grown
 
 -- ---- the theorems
 pub returns-in_err-abs_rep-clause-made : goal.returns-in_err-abs_rep-clause-made
@@ -68,13 +68,13 @@ returns-clause-made c =
     let two = c.in_ok-abs_rep_step.ensures in
     let three = c.in_ok-rep_abs_step.ensures in
     let there = later at.In_ok-rep_abs_step in
-    let first = origin-kept _ t two.kept.of.run (from_first at.In_ok-abs_rep) c.in_ok-abs_rep_step.abs_rep_step
+    let first = origin-kept _ t two.kept.is_run (from_first at.In_ok-abs_rep) c.in_ok-abs_rep_step.abs_rep_step
     two.inside ∙ two.made ∙ ap (Outcome 1) (sym there) in
     let second =
-    origin-kept _ t three.kept.of.run c.in_ok-abs_rep.ensures.adds.grown c.in_ok-rep_abs_step.rep_abs_step
+    origin-kept _ t three.kept.is_run c.in_ok-abs_rep.ensures.adds.grown c.in_ok-rep_abs_step.rep_abs_step
     three.inside ∙ three.made
     ∙ ap (Outcome 2)
-    (traced-origin _ _ _ one.kept.of two.kept c.in_ok-steps.steps.definition one.made.definition_step ∙ sym there) in
+    (traced-origin _ _ one.kept.is_run two.kept c.in_ok-steps.steps.definition one.made.definition_step ∙ sym there) in
     sym (same at.In_ok-rep_abs_step) ∙ c.in_ok-abs_rep.ensures.made
     ∙ (λ i. Ok (
       record { object = theorem (theorem_at t.kernel c.in_ok-abs_rep.abs_rep); origin = sym first i }
@@ -88,7 +88,7 @@ returns-clause-operator c =
     let there = c.in_ok-abs_rep.ensures in
     let from2 = from_first (goal.at.returns-clause-operator c).In_ok-abs_rep in
     operator-of _ _ _ _ _ _ _ c.in_ok-steps.steps c.in_ok-steps.ensures.made _ _ _ _ _
-    c.in_ok-steps.ensures.kept.of.run (grows-on (traces-grow _ _ _ c.in_ok-abs_rep_step.ensures.kept) from2)
+    c.in_ok-steps.ensures.kept.is_run (grows-on (traces-grow _ _ c.in_ok-abs_rep_step.ensures.kept) from2)
     there.first
     (omega (arith, c.in_ok-abs_rep_step.ensures.inside, from2.trace.longer)) there.second
     (omega (arith, c.in_ok-rep_abs_step.ensures.inside, there.adds.grown.trace.longer))
@@ -105,12 +105,12 @@ returns-in_err-steps-clause-adds c = stays-adds _ (traces-stay c.in_err-steps.en
 
 pub returns-in_err-abs_rep_step-clause-adds : goal.returns-in_err-abs_rep_step-clause-adds
 returns-in_err-abs_rep_step-clause-adds c =
-    stays-adds _ (traces-stay (traces-on _ _ _ _ c.in_ok-steps.ensures.kept c.in_err-abs_rep_step.ensures.kept))
+    stays-adds _ (traces-stay (traces-on _ _ _ c.in_ok-steps.ensures.kept c.in_err-abs_rep_step.ensures.kept))
 
 pub returns-in_err-rep_abs_step-clause-adds : goal.returns-in_err-rep_abs_step-clause-adds
 returns-in_err-rep_abs_step-clause-adds c =
     let two = traced_first (goal.at.returns-in_err-rep_abs_step-clause-adds c).In_ok-abs_rep_step in
-    stays-adds _ (traces-stay (traces-on _ _ _ _ two c.in_err-rep_abs_step.ensures.kept))
+    stays-adds _ (traces-stay (traces-on _ _ _ two c.in_err-rep_abs_step.ensures.kept))
 
 pub returns-in_err-abs_rep-clause-adds : goal.returns-in_err-abs_rep-clause-adds
 returns-in_err-abs_rep-clause-adds c =

@@ -11,7 +11,7 @@ returns-in_err-th-clause-made c = λ k stated h.
     (c.in_err-th.ensures.made k c.args.self.now.kernel stated h)
 
 pub returns-in_err-th-clause-stays : goal.returns-in_err-th-clause-stays
-returns-in_err-th-clause-stays c = stays-same c.args.self.now c.args.machine.now c.requires.of
+returns-in_err-th-clause-stays c = stays-same c.args.self.now c.requires.run
 
 pub returns-in_err-step-clause-stays : goal.returns-in_err-step-clause-stays
 returns-in_err-step-clause-stays c = traces-stay c.in_err-step.ensures.kept

@@ -11,24 +11,22 @@ defining_step-requires-clause-symbols c =
 pub returns-clause-symbol : goal.returns-clause-symbol
 returns-clause-symbol c =
     let s = c.args.self.now in
-    let m = c.args.machine.now in
     let one = c.in_ok-name_step.ensures.kept in
-    traced-origin c.symbol_steps.new.self c.defining_step.new.self m one.of c.in_ok-definition.ensures.kept
+    traced-origin c.symbol_steps.new.self c.defining_step.new.self one.is_run c.in_ok-definition.ensures.kept
     c.in_ok-name_step.symbol c.in_ok-name_step.ensures.symbol_step
-    ∙ origin-number s c.symbol_steps.new.self m one c.in_ok-name_step.symbol (constant_origin (Named c.args.name))
+    ∙ origin-number s c.symbol_steps.new.self one c.in_ok-name_step.symbol (constant_origin (Named c.args.name))
     c.in_ok-name_step.ensures.symbol
 
 pub returns-clause-definition : goal.returns-clause-definition
 returns-clause-definition c =
     let s = c.args.self.now in
-    let m = c.args.machine.now in
     let one = c.in_ok-name_step.ensures.kept in
-    let name = origin-number s c.symbol_steps.new.self m one c.in_ok-name_step.name_step (Named c.args.name)
+    let name = origin-number s c.symbol_steps.new.self one c.in_ok-name_step.name_step (Named c.args.name)
     c.in_ok-name_step.ensures.name in
-    let term = traced-origin s c.symbol_steps.new.self m c.requires.of one c.args.term_step c.requires.term_step in
+    let term = traced-origin s c.symbol_steps.new.self c.requires.run one c.args.term_step c.requires.term_step in
     c.in_ok-definition.ensures.made
     ∙ (λ i. Define words.DefineConst (MoreOrigins (name i) (MoreOrigins (term i) NoOrigins)))
 
 pub returns-clause-kept : goal.returns-clause-kept
-returns-clause-kept c = traces-on c.args.self.now c.symbol_steps.new.self c.defining_step.new.self c.args.machine.now
+returns-clause-kept c = traces-on c.args.self.now c.symbol_steps.new.self c.defining_step.new.self
     c.in_ok-name_step.ensures.kept c.in_ok-definition.ensures.kept

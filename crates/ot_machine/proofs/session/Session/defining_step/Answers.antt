@@ -5,11 +5,10 @@ use Rattle.ot_machine.proofs.session.Session.defining_step.Goals as goal
 pub returns : goal.returns
 returns c =
     let s = c.args.self.now in
-    let m = c.args.machine.now in
     record {
-      made = origin-defined s m c.args.word c.args.operands.now c.define.new.self c.in_ok-define.field-0
+      made = origin-defined s c.args.word c.args.operands.now c.define.new.self c.in_ok-define.field-0
           c.in_ok-define.ensures.ok;
       inside = slice_get_within _ _ _ c.in_ok-define.ensures.ok;
-      kept = traces-defined s m c.args.word c.args.operands.now c.define.new.self c.requires.of c.requires.inside
+      kept = traces-defined s c.args.word c.args.operands.now c.define.new.self c.requires.run c.requires.inside
           c.in_ok-define.ensures.grown;
     }

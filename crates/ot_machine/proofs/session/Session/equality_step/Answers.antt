@@ -9,14 +9,14 @@ use Rattle.ot_machine.proofs.session.Session.equality_step.Goals as goal
 pub returns : goal.returns
 returns c =
     let s = c.args.self.now in
-    let of = c.requires.of in
+    let of = c.requires.run in
     let one = c.in_ok-truth.ensures in
     let two = c.in_ok-test.ensures in
     let three = c.in_ok-whole.ensures in
-    let both = traces-on _ _ _ _ one.kept two.kept in
-    let all = traces-on _ _ _ _ both three.kept in
-    let inner = traced-origin _ _ _ of one.kept c.args.ty c.requires.ty in
-    let outer = traced-origin _ _ _ of both c.args.ty c.requires.ty in
+    let both = traces-on _ _ _ one.kept two.kept in
+    let all = traces-on _ _ _ both three.kept in
+    let inner = traced-origin _ _ of one.kept c.args.ty c.requires.ty in
+    let outer = traced-origin _ _ of both c.args.ty c.requires.ty in
     let test = two.made ∙ (λ i. fun_origin (inner i) (one.made i)) in
     let whole = three.made ∙ (λ i. fun_origin (outer i) (test i)) in
     let name = ap (λ k. name_at k 2) all.kernel

@@ -5,12 +5,12 @@ use Rattle.ot_machine.proofs.session.Session.equation_step.Goals as goal
 
 pub returns : goal.returns
 returns c =
-    let of = c.requires.of in
+    let of = c.requires.run in
     let one = c.in_ok-round.ensures in
     let two = c.in_ok-left.ensures in
-    let both = traces-on _ _ _ _ one.kept two.kept in
-    let equality = traced-origin _ _ _ of one.kept c.args.constants.equality c.requires.equality in
-    let r = traced-origin _ _ _ of both c.args.r c.requires.r in
+    let both = traces-on _ _ _ one.kept two.kept in
+    let equality = traced-origin _ _ of one.kept c.args.constants.equality c.requires.equality in
+    let r = traced-origin _ _ of both c.args.r c.requires.r in
     let left = two.made ∙ (λ i. app (equality i) (one.made i)) in
     record {
       made = c.in_ok-made_of.ensures.made ∙ (λ i. app (left i) (r i));

@@ -18,13 +18,12 @@ pub returns : goal.returns
 returns c =
     let s = c.args.self.now in
     let u = c.renamed_list.new.self in
-    let m = c.args.machine.now in
     let one = c.in_ok-list.ensures.kept in
-    let premise = traced-origin s u m c.requires.of one c.args.premise_step c.requires.premise_step in
+    let premise = traced-origin s u c.requires.run one c.args.premise_step c.requires.premise_step in
     record {
       made = c.in_ok-defining_step.ensures.made
           ∙ (λ i. Define words.DefineConstList
           (MoreOrigins (c.in_ok-list.ensures.made i) (MoreOrigins (premise i) NoOrigins)));
       inside = c.in_ok-defining_step.ensures.inside;
-      kept = traces-on s u c.defining_step.new.self m one c.in_ok-defining_step.ensures.kept;
+      kept = traces-on s u c.defining_step.new.self one c.in_ok-defining_step.ensures.kept;
     }

@@ -32,7 +32,6 @@ made_of-requires-clause-inside c =
 pub elements-preserved : goal.elements-preserved
 elements-preserved c =
     let s = c.args.self.now in
-    let m = c.args.machine.now in
     let t = c.elements.self in
     let u = c.made_of.new.self in
     let before = c.elements.invariant.kept in
@@ -42,9 +41,9 @@ elements-preserved c =
     let element = c.in-Some.element.now in
     let P = λ (n : ℕ). n < length s.trace in
     let front = c.in-Some.front.now in
-    let head = number-later s t m before element (here (goal.at.elements-preserved c).In-Some) in
+    let head = number-later s t before element (here (goal.at.elements-preserved c).In-Some) in
     record {
-      kept = traces-on s t u m before one;
+      kept = traces-on s t u before one;
       list_inside = c.in_ok-list.ensures.inside;
       inside = subst (All P) (take_at front (element ∷ []) _ refl)
           (All-take P (length front) _ (subst (All P) split c.elements.invariant.inside));

@@ -7,7 +7,7 @@ use Rattle.ot_machine.proofs.session.Session.list_step.Given as goal
 
 abbrev pub invariant-elements : goal.invariant-elements
 invariant-elements l = record {
-  kept : Traces l.fn.self l.self l.machine;
+  kept : Traces l.fn.self l.self;
   list_inside : l.list < length l.self.trace;
   inside : All (λ i. i < length l.fn.self.trace) l.rest;
   so_far : list_onto (map (origin_at l.fn.self.trace) l.rest) (origin_at l.self.trace l.list)

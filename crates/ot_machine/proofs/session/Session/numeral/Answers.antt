@@ -1,10 +1,10 @@
 use Rattle.std.specs.Prelude.{[]}
 use Rattle.std.proofs.lemmas.Option.{slice_get_within, get_or_from_slice_get}
-use Rattle.ot_machine.proofs.Kept.{leaves}
+use Rattle.ot_machine.proofs.Kept.{kernel-stays}
 use Rattle.ot_machine.proofs.session.Session.numeral.Goals as goal
 
 pub returns-in_err-intern-clause-kept : goal.returns-in_err-intern-clause-kept
-returns-in_err-intern-clause-kept c = leaves _ _ _ c.requires c.intern.ensures.keeps c.intern.ensures.same.basis
+returns-in_err-intern-clause-kept c = kernel-stays _ _ c.requires.run c.intern.ensures.keeps c.intern.ensures.same.basis
 
 pub returns-clause-made : goal.returns-clause-made
 returns-clause-made c =
@@ -18,4 +18,4 @@ pub returns-clause-inside : goal.returns-clause-inside
 returns-clause-inside c = slice_get_within _ _ _ c.in_ok-intern.ensures.ok
 
 pub returns-clause-kept : goal.returns-clause-kept
-returns-clause-kept c = leaves _ _ _ c.requires c.intern.ensures.keeps c.intern.ensures.same.basis
+returns-clause-kept c = kernel-stays _ _ c.requires.run c.intern.ensures.keeps c.intern.ensures.same.basis

@@ -24,29 +24,29 @@ use Rattle.ot_machine.proofs.session.Session.open_steps.Goals.{In_ok-old-in-App,
 use Rattle.ot_machine.proofs.session.Session.open_steps.Goals.{In_ok-constants-in-App, In_ok-first-in-App}
 
 -- ---- the trace alone grows after the predicate's step
-since_list : (c : In_ok-list-in-App) → Traces c.term_origin.new.self c.symbol_list_step.new.self c.args.machine.now
-since_list c = traces-on _ _ _ _ c.in_ok-old-in-App.ensures.kept c.in_ok-list-in-App.ensures.kept
+since_list : (c : In_ok-list-in-App) → Traces c.term_origin.new.self c.symbol_list_step.new.self
+since_list c = traces-on _ _ _ c.in_ok-old-in-App.ensures.kept c.in_ok-list-in-App.ensures.kept
 
-since_new : (c : In_ok-new-in-App) → Traces c.term_origin.new.self c.operated_step.new.self c.args.machine.now
-since_new c = traces-on _ _ _ _ (since_list (goal.at.In_ok-new-in-App c).In_ok-list-in-App)
+since_new : (c : In_ok-new-in-App) → Traces c.term_origin.new.self c.operated_step.new.self
+since_new c = traces-on _ _ _ (since_list (goal.at.In_ok-new-in-App c).In_ok-list-in-App)
     c.in_ok-new-in-App.ensures.kept
 
 since_constants : (c : In_ok-constants-in-App)
-    → Traces c.term_origin.new.self c.constants_between.new.self c.args.machine.now
-since_constants c = traces-on _ _ _ _ (since_new (goal.at.In_ok-constants-in-App c).In_ok-new-in-App)
+    → Traces c.term_origin.new.self c.constants_between.new.self
+since_constants c = traces-on _ _ _ (since_new (goal.at.In_ok-constants-in-App c).In_ok-new-in-App)
     c.in_ok-constants-in-App.ensures.kept
 
-since_first : (c : In_ok-first-in-App) → Traces c.term_origin.new.self c.returned_step.new.self c.args.machine.now
-since_first c = traces-on _ _ _ _ (since_constants (goal.at.In_ok-first-in-App c).In_ok-constants-in-App)
+since_first : (c : In_ok-first-in-App) → Traces c.term_origin.new.self c.returned_step.new.self
+since_first c = traces-on _ _ _ (since_constants (goal.at.In_ok-first-in-App c).In_ok-constants-in-App)
     c.in_ok-first-in-App.ensures.kept
 
 -- and after that of the old type
-old_new : (c : In_ok-new-in-App) → Traces c.type_origin.new.self c.operated_step.new.self c.args.machine.now
-old_new c = traces-on _ _ _ _ c.in_ok-list-in-App.ensures.kept c.in_ok-new-in-App.ensures.kept
+old_new : (c : In_ok-new-in-App) → Traces c.type_origin.new.self c.operated_step.new.self
+old_new c = traces-on _ _ _ c.in_ok-list-in-App.ensures.kept c.in_ok-new-in-App.ensures.kept
 
 -- all stays
-stays : (c : In_ok-predicate-in-App) (t : Session) → Traces c.term_origin.new.self t c.args.machine.now
-    → Stays c.args.self.now t c.args.machine.now
+stays : (c : In_ok-predicate-in-App) (t : Session) → Traces c.term_origin.new.self t
+    → Stays c.args.self.now t
 stays c t traced = stays-on c.in_ok-predicate-in-App.ensures.kept (traces-stay traced)
 
 -- ---- what the steps stand for
@@ -78,7 +78,7 @@ new_is : (c : In_ok-new-in-App)
 new_is c =
     let s = c.args.self.now in
     let at = goal.at.In_ok-new-in-App c in
-    let grown = λ (t : Session) (h : Traces c.term_origin.new.self t c.args.machine.now).
+    let grown = λ (t : Session) (h : Traces c.term_origin.new.self t).
     (stays at.In_ok-predicate-in-App t h).grown in
     let name = name-later s _ (grown _ (since_list at.In_ok-list-in-App)) c.args.name c.requires.operands.name in
     let vars = names-later s _ (grown _ c.in_ok-old-in-App.ensures.kept) c.args.variables.now
@@ -109,7 +109,7 @@ made c =
     let grown = (stays at.In_ok-predicate-in-App _ (since_new at.In_ok-new-in-App)).grown in
     let abs = name-later s _ grown c.args.abs c.requires.operands.abs in
     let rep = name-later s _ grown c.args.rep c.requires.operands.rep in
-    let old = traced-origin _ _ _ c.in_ok-old-in-App.ensures.kept.of (old_new at.In_ok-new-in-App)
+    let old = traced-origin _ _ c.in_ok-old-in-App.ensures.kept.is_run (old_new at.In_ok-new-in-App)
     c.in_ok-old-in-App.old c.in_ok-old-in-App.ensures.inside ∙ old_is at.In_ok-old-in-App in
     let new = new_is at.In_ok-new-in-App in
     record {
@@ -125,11 +125,11 @@ returns-in_ok-second-in-App-clause-first c =
     let s = c.args.self.now in
     let k = s.kernel in
     let constants = made at.In_ok-constants-in-App in
-    let new = traced-origin _ _ _ c.in_ok-new-in-App.ensures.kept.of c.in_ok-constants-in-App.ensures.kept
+    let new = traced-origin _ _ c.in_ok-new-in-App.ensures.kept.is_run c.in_ok-constants-in-App.ensures.kept
     c.in_ok-new-in-App.new c.in_ok-new-in-App.ensures.inside ∙ new_is at.In_ok-new-in-App in
     let grown = (stays at.In_ok-predicate-in-App _ (since_constants at.In_ok-constants-in-App)).grown in
-    let definition = origin-kept s _ c.requires.of.run grown c.args.definition c.requires.definition in
-    traced-origin _ _ _ c.in_ok-first-in-App.ensures.kept.of c.in_ok-second-in-App.ensures.kept
+    let definition = origin-kept s _ c.requires.run grown c.args.definition c.requires.definition in
+    traced-origin _ _ c.in_ok-first-in-App.ensures.kept.is_run c.in_ok-second-in-App.ensures.kept
     c.in_ok-first-in-App.first c.in_ok-first-in-App.ensures.inside ∙ c.in_ok-first-in-App.ensures.made
     ∙ (λ i. returned_origin (definition i) (constants.abs i) (constants.rep i) (new i))
     ∙ ap (first_origin (origin_of s c.args.definition) (name_at k c.args.abs) (name_at k c.args.rep) (New at.Start))
@@ -147,15 +147,15 @@ returns-in_ok-second-in-App-clause-second c =
     let constants = made at.In_ok-constants-in-App in
     let numbers = c.in_ok-constants-in-App.constants in
     let grown = (stays at.In_ok-predicate-in-App _ (since_first at.In_ok-first-in-App)).grown in
-    let definition = origin-kept s _ c.requires.of.run grown c.args.definition c.requires.definition in
-    let abs = traced-origin _ t6 _ five.of six numbers.abs are.abs_step ∙ constants.abs in
-    let rep = traced-origin _ t6 _ five.of six numbers.rep are.rep_step ∙ constants.rep in
-    let equality = traced-origin _ t6 _ five.of six numbers.equality are.equality_step ∙ constants.equality in
-    let predicate = traced-origin _ t6 _ c.in_ok-predicate-in-App.ensures.kept.of (since_first at.In_ok-first-in-App)
+    let definition = origin-kept s _ c.requires.run grown c.args.definition c.requires.definition in
+    let abs = traced-origin _ t6 five.is_run six numbers.abs are.abs_step ∙ constants.abs in
+    let rep = traced-origin _ t6 five.is_run six numbers.rep are.rep_step ∙ constants.rep in
+    let equality = traced-origin _ t6 five.is_run six numbers.equality are.equality_step ∙ constants.equality in
+    let predicate = traced-origin _ t6 c.in_ok-predicate-in-App.ensures.kept.is_run (since_first at.In_ok-first-in-App)
     c.in_ok-predicate-in-App.predicate c.in_ok-predicate-in-App.ensures.inside
     ∙ c.in_ok-predicate-in-App.ensures.made ∙ canon-is (named_at k.terms c.in-App.p) in
-    let later = traces-on _ _ t6 _ (traces-on _ _ _ _ (old_new at.In_ok-new-in-App) five) six in
-    let old = traced-origin _ t6 _ c.in_ok-old-in-App.ensures.kept.of later c.in_ok-old-in-App.old
+    let later = traces-on _ _ t6 (traces-on _ _ _ (old_new at.In_ok-new-in-App) five) six in
+    let old = traced-origin _ t6 c.in_ok-old-in-App.ensures.kept.is_run later c.in_ok-old-in-App.old
     c.in_ok-old-in-App.ensures.inside ∙ old_is at.In_ok-old-in-App in
     c.in_ok-second-in-App.ensures.made
     ∙ (λ i. opened_origin (definition i) (abs i) (rep i) (equality i) (predicate i) (old i))
@@ -167,28 +167,28 @@ pub returns-in_err-new-in-App-clause-kept : goal.returns-in_err-new-in-App-claus
 returns-in_err-new-in-App-clause-kept c =
     let at = goal.at.returns-in_err-new-in-App-clause-kept c in
     stays at.In_ok-predicate-in-App _
-    (traces-on _ _ _ _ (since_list at.In_ok-list-in-App) c.in_err-new-in-App.ensures.kept)
+    (traces-on _ _ _ (since_list at.In_ok-list-in-App) c.in_err-new-in-App.ensures.kept)
 
 pub returns-in_err-constants-in-App-clause-kept : goal.returns-in_err-constants-in-App-clause-kept
 returns-in_err-constants-in-App-clause-kept c =
     let at = goal.at.returns-in_err-constants-in-App-clause-kept c in
     stays at.In_ok-predicate-in-App _
-    (traces-on _ _ _ _ (since_new at.In_ok-new-in-App) c.in_err-constants-in-App.ensures.kept)
+    (traces-on _ _ _ (since_new at.In_ok-new-in-App) c.in_err-constants-in-App.ensures.kept)
 
 pub returns-in_err-first-in-App-clause-kept : goal.returns-in_err-first-in-App-clause-kept
 returns-in_err-first-in-App-clause-kept c =
     let at = goal.at.returns-in_err-first-in-App-clause-kept c in
     stays at.In_ok-predicate-in-App _
-    (traces-on _ _ _ _ (since_constants at.In_ok-constants-in-App) c.in_err-first-in-App.ensures.kept)
+    (traces-on _ _ _ (since_constants at.In_ok-constants-in-App) c.in_err-first-in-App.ensures.kept)
 
 pub returns-in_err-second-in-App-clause-kept : goal.returns-in_err-second-in-App-clause-kept
 returns-in_err-second-in-App-clause-kept c =
     let at = goal.at.returns-in_err-second-in-App-clause-kept c in
     stays at.In_ok-predicate-in-App _
-    (traces-on _ _ _ _ (since_first at.In_ok-first-in-App) c.in_err-second-in-App.ensures.kept)
+    (traces-on _ _ _ (since_first at.In_ok-first-in-App) c.in_err-second-in-App.ensures.kept)
 
 pub returns-in_ok-second-in-App-clause-kept : goal.returns-in_ok-second-in-App-clause-kept
 returns-in_ok-second-in-App-clause-kept c =
     let at = goal.at.returns-in_ok-second-in-App-clause-kept c in
     stays at.In_ok-predicate-in-App _
-    (traces-on _ _ _ _ (since_first at.In_ok-first-in-App) c.in_ok-second-in-App.ensures.kept)
+    (traces-on _ _ _ (since_first at.In_ok-first-in-App) c.in_ok-second-in-App.ensures.kept)

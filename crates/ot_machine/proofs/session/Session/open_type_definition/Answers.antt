@@ -17,7 +17,7 @@ use Rattle.ot_machine.proofs.session.Session.open_type_definition.Goals as goal
 use Rattle.ot_machine.proofs.session.Session.open_type_definition.Goals.{In_ok-steps, In_ok-abs_rep_step}
 
 -- ---- the steps before the definition is accepted
-stays : (c : In_ok-abs_rep_step) → Stays c.args.self.now c.open_steps.new.self c.args.machine.now
+stays : (c : In_ok-abs_rep_step) → Stays c.args.self.now c.open_steps.new.self
 stays c = stays-on (traces-stay c.in_ok-steps.ensures.kept) c.in_ok-abs_rep_step.ensures.kept
 
 operands : (c : In_ok-steps)
@@ -28,7 +28,7 @@ operands c = subst (λ k. AreOperandsIn k c.args.name c.args.abs c.args.rep c.ar
 
 later : (c : In_ok-abs_rep_step) → origin_of c.open_steps.new.self c.in_ok-steps.steps.definition
     ≡ origin_of c.type_defining.new.self c.in_ok-steps.steps.definition
-later c = origin-kept _ _ c.in_ok-steps.ensures.kept.of.run c.in_ok-abs_rep_step.ensures.kept.grown
+later c = origin-kept _ _ c.in_ok-steps.ensures.kept.is_run c.in_ok-abs_rep_step.ensures.kept.grown
     c.in_ok-steps.steps.definition c.in_ok-steps.ensures.made.definition_step
 
 -- what is stated over them is what was stated at the start
@@ -63,7 +63,7 @@ returns-clause-made c =
     let steps = c.in_ok-abs_rep_step.ensures in
     let origin = origin-same c.type_defining.new.self c.open_steps.new.self steps.kept.grown _ _ _ _ _
     (operands (goal.at.returns-clause-made c).In_ok-steps) in
-    let kept = origin-kept c.open_steps.new.self t steps.kept.of.run c.in_ok-abs_rep.ensures.adds.grown in
+    let kept = origin-kept c.open_steps.new.self t steps.kept.is_run c.in_ok-abs_rep.ensures.adds.grown in
     let first = kept c.in_ok-abs_rep_step.abs_rep_step steps.first_step ∙ steps.first
     ∙ sym (origin first_origin _ _ (later at)) in
     let second = kept c.in_ok-abs_rep_step.rep_abs_step steps.second_step ∙ steps.second
@@ -81,7 +81,7 @@ returns-clause-operator c =
     let there = c.in_ok-abs_rep.ensures in
     let steps = c.in_ok-abs_rep_step.ensures in
     operator-of _ _ _ _ _ _ _ c.in_ok-steps.steps c.in_ok-steps.ensures.made _ _ _ _ _
-    c.in_ok-steps.ensures.kept.of.run (grows-on steps.kept.grown there.adds.grown) there.first
+    c.in_ok-steps.ensures.kept.is_run (grows-on steps.kept.grown there.adds.grown) there.first
     (omega (arith, steps.first_step, there.adds.grown.trace.longer)) there.second
     (omega (arith, steps.second_step, there.adds.grown.trace.longer))
 

@@ -8,11 +8,10 @@ use Rattle.ot_machine.proofs.session.Session.outcome_step.Goals as goal
 pub returns : goal.returns
 returns c =
     let s = c.args.self.now in
-    let m = c.args.machine.now in
     let o = Outcome c.args.place (origin_at s.trace c.args.definition) in
     record {
-      made = origin-added s m o c.add.new.self c.in_ok-add.field-0 c.in_ok-add.ensures.ok;
+      made = origin-added s o c.add.new.self c.in_ok-add.field-0 c.in_ok-add.ensures.ok;
       inside = slice_get_within _ _ _ c.in_ok-add.ensures.ok;
-      kept = traces-added s m o c.add.new.self c.requires.of
-          (c.requires.of.run.named c.args.definition (Number (pos 0)) c.requires.inside) c.in_ok-add.ensures.grown;
+      kept = traces-added s o c.add.new.self c.requires.run
+          (c.requires.run.named c.args.definition (Number (pos 0)) c.requires.inside) c.in_ok-add.ensures.grown;
     }

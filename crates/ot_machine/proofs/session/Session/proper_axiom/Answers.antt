@@ -35,7 +35,7 @@ pub returns-in-Some-clause-adds : goal.returns-in-Some-clause-adds
 returns-in-Some-clause-adds c = stays-adds _ c.weakened.ensures.stays
 
 pub returns-in-Some-assumed-clause-adds : goal.returns-in-Some-assumed-clause-adds
-returns-in-Some-assumed-clause-adds c = stays-adds _ (stays-same c.args.self.now c.args.machine.now c.requires.of)
+returns-in-Some-assumed-clause-adds c = stays-adds _ (stays-same c.args.self.now c.requires.of.run)
 
 pub returns-clause-made : goal.returns-clause-made
 returns-clause-made c =

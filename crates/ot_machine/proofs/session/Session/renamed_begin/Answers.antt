@@ -18,7 +18,7 @@ returns-in-Some c =
     let f = renamed names (context_of s c.args.context.now).interpretation.constants in
     let same = begin-renamed (name_at s.kernel) f (origin_at s.trace c.args.pair) c.in-Some.name
     c.constant_named-named.result c.in-Some.ensures.some c.constant_named-named.ensures.renamed in
-    subst (λ o. MakesStep c.begun_with.result o s c.begun_with.new.self c.args.machine.now) same c.begun_with.ensures
+    subst (λ o. MakesStep c.begun_with.result o s c.begun_with.new.self) same c.begun_with.ensures
 
 pub returns-in-None : goal.returns-in-None
 returns-in-None c =
@@ -26,5 +26,5 @@ returns-in-None c =
     record {
       made = sym (c.in-None.ensures.none (renamed names (context_of s c.args.context.now).interpretation.constants));
       inside = c.requires.inside;
-      kept = traces-none s c.args.machine.now c.requires.of;
+      kept = traces-none s c.requires.run;
     }

@@ -15,7 +15,7 @@ pub renamed_begin-requires-clause-context : goal.renamed_begin-requires-clause-c
 renamed_begin-requires-clause-context c =
     let s = c.args.self.now in
     let t = c.loop-pair.self in
-    of_context-kept s t c.requires.of.run (traces-grow s t c.args.machine.now c.loop-pair.invariant.kept)
+    of_context-kept s t c.requires.run (traces-grow s t c.loop-pair.invariant.kept)
     c.args.context.now c.requires.context
 
 pub renamed_begin-requires-clause-inside : goal.renamed_begin-requires-clause-inside
@@ -27,7 +27,6 @@ renamed_begin-requires-clause-inside c =
 pub loop-pair-preserved : goal.loop-pair-preserved
 loop-pair-preserved c =
     let s = c.args.self.now in
-    let m = c.args.machine.now in
     let t = c.loop-pair.self in
     let u = c.renamed_begin.new.self in
     let before = c.loop-pair.invariant.kept in
@@ -36,18 +35,18 @@ loop-pair-preserved c =
     let pair = c.pair-item.result in
     let here = item-inside (λ i. i < length s.trace) c.args.pairs.now c.loop-pair.pair-index pair c.requires.inside
     c.loop-pair-test.true c.pair-item.is in
-    let context = context-kept s t c.requires.of.run (traces-grow s t m before) c.args.context.now
+    let context = context-kept s t c.requires.run (traces-grow s t before) c.args.context.now
     c.requires.context in
-    let origin = traced-origin s t m c.requires.of before pair here in
+    let origin = traced-origin s t c.requires.run before pair here in
     let read = λ (x : Context). renamed names x.interpretation.constants in
     record {
-      kept = traces-on s t u m before one;
+      kept = traces-on s t u before one;
       inside = more-inside (length t.trace) (length u.trace) steps _ c.in_ok-step.step one.grown.longer
           c.loop-pair.invariant.inside c.in_ok-step.ensures.inside c.in_ok-push.ensures.items;
       made =
           one-more (origin_of u) (λ i. renamed_first (read (context_of s c.args.context.now)) (origin_of s i)) steps _
           c.in_ok-step.step c.args.pairs.now c.loop-pair.pair-index pair c.loop-pair-test.true c.pair-item.is
           c.in_ok-push.ensures.items
-          (origins-later t u m before.of one steps c.loop-pair.invariant.inside ∙ c.loop-pair.invariant.made)
+          (origins-later t u before.is_run one steps c.loop-pair.invariant.inside ∙ c.loop-pair.invariant.made)
           (c.in_ok-step.ensures.made ∙ (λ i. renamed_first (read (context i)) (origin i)));
     }

@@ -34,24 +34,24 @@ symbols_of-requires-clause-inside c =
     (λ k d q. omega (arith, found k d, pairs.inside k d, pairs.kept.grown.longer, longer))
 
 pub returns-in_err-found-clause-kept : goal.returns-in_err-found-clause-kept
-returns-in_err-found-clause-kept c = traces-none c.args.self.now c.args.machine.now c.requires.of
+returns-in_err-found-clause-kept c = traces-none c.args.self.now c.requires.run
 
 pub returns-in_err-list-clause-kept : goal.returns-in_err-list-clause-kept
 returns-in_err-list-clause-kept c = traces-on c.args.self.now c.renamed_each.new.self c.list_step.new.self
-    c.args.machine.now c.in_ok-pairs.ensures.kept c.in_err-list.ensures.kept
+    c.in_ok-pairs.ensures.kept c.in_err-list.ensures.kept
 
 pub returns-in_err-symbols-clause-kept : goal.returns-in_err-symbols-clause-kept
 returns-in_err-symbols-clause-kept c =
-    traces-on c.args.self.now c.renamed_each.new.self c.symbols_of.new.self c.args.machine.now
+    traces-on c.args.self.now c.renamed_each.new.self c.symbols_of.new.self
     c.in_ok-pairs.ensures.kept
-    (traces-on c.renamed_each.new.self c.list_step.new.self c.symbols_of.new.self c.args.machine.now
+    (traces-on c.renamed_each.new.self c.list_step.new.self c.symbols_of.new.self
     c.in_ok-list.ensures.kept c.in_err-symbols.ensures.kept)
 
 pub returns-clause-kept : goal.returns-clause-kept
 returns-clause-kept c =
-    traces-on c.args.self.now c.renamed_each.new.self c.symbols_of.new.self c.args.machine.now
+    traces-on c.args.self.now c.renamed_each.new.self c.symbols_of.new.self
     c.in_ok-pairs.ensures.kept
-    (traces-on c.renamed_each.new.self c.list_step.new.self c.symbols_of.new.self c.args.machine.now
+    (traces-on c.renamed_each.new.self c.list_step.new.self c.symbols_of.new.self
     c.in_ok-list.ensures.kept c.in_ok-symbols.ensures.kept)
 
 pub returns-clause-list_step : goal.returns-clause-list_step
@@ -60,7 +60,6 @@ returns-clause-list_step c = omega (arith, c.in_ok-list.ensures.inside, c.in_ok-
 pub returns-clause-made : goal.returns-clause-made
 returns-clause-made c =
     let s = c.args.self.now in
-    let m = c.args.machine.now in
     let t1 = c.renamed_each.new.self in
     let t2 = c.list_step.new.self in
     let t = c.symbols_of.new.self in
@@ -75,16 +74,15 @@ returns-clause-made c =
     let at = origin_at t1.trace in
     let made = c.in_ok-list.ensures.made ∙ ap (λ ps. list_onto (map at ps) (at end)) c.deref-2.ensures.value in
     let each = c.in_ok-pairs.ensures.made ∙ ap (map (λ i. renamed_first f (origin_of s i))) c.deref.ensures.value in
-    let last = traced-origin s t1 m c.requires.of one end c.in_ok-found.ensures.end_inside in
-    traced-origin t2 t m two.of three list c.in_ok-list.ensures.inside
-    ∙ list-made t1 t2 m two list end pairs made
+    let last = traced-origin s t1 c.requires.run one end c.in_ok-found.ensures.end_inside in
+    traced-origin t2 t two.is_run three list c.in_ok-list.ensures.inside
+    ∙ list-made t1 t2 two list end pairs made
     ∙ (λ i. list_onto (each i) (last i))
     ∙ sym (list-renamed s f c.args.list end found c.in_ok-found.ensures.read c.in_ok-found.ensures.end)
 
 pub returns-clause-symbols : goal.returns-clause-symbols
 returns-clause-symbols c =
     let s = c.args.self.now in
-    let m = c.args.machine.now in
     let t1 = c.renamed_each.new.self in
     let t2 = c.list_step.new.self in
     let t = c.symbols_of.new.self in
@@ -94,11 +92,11 @@ returns-clause-symbols c =
     let pairs = c.in_ok-pairs.pairs.items in
     let list = c.in_ok-list.list in
     let at = origin_at t1.trace in
-    let made = number-later t2 t m c.in_ok-symbols.ensures.kept list c.in_ok-list.ensures.inside
+    let made = number-later t2 t c.in_ok-symbols.ensures.kept list c.in_ok-list.ensures.inside
     ∙ c.in_ok-list.ensures.made ∙ ap (λ ps. list_onto (map at ps) (at end)) c.deref-2.ensures.value in
-    let ends = ap elements (number-later s t1 m one end c.in_ok-found.ensures.end_inside)
+    let ends = ap elements (number-later s t1 one end c.in_ok-found.ensures.end_inside)
     ∙ c.in_ok-found.ensures.end in
     let symbols = c.in_ok-symbols.ensures.made
     ∙ ap (map (λ i. constant_origin (operand 0 (origin_at t2.trace i)))) c.deref-3.ensures.value in
-    constants-made t1 t2 m one.of two end pairs (map (origin_at t.trace) c.in_ok-symbols.symbols.items)
+    constants-made t1 t2 one.is_run two end pairs (map (origin_at t.trace) c.in_ok-symbols.symbols.items)
     (origin_at t.trace list) c.in_ok-pairs.ensures.inside ends made symbols

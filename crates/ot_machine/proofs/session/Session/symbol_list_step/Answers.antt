@@ -33,24 +33,23 @@ pub symbols-preserved : goal.symbols-preserved
 symbols-preserved c =
     let s = c.args.self.now in
     let k = s.kernel in
-    let m = c.args.machine.now in
     let t = c.symbols.self in
     let t1 = c.symbol_steps.new.self in
     let t2 = c.made_of-in-Some.new.self in
     let before = c.symbols.invariant.kept in
     let one = c.in_ok-head.ensures.kept in
     let two = c.in_ok-list-2.ensures.kept in
-    let upto1 = traces-on s t t1 m before one in
+    let upto1 = traces-on s t t1 before one in
     let split = c.in-Some.ensures.cases.0 in
     let P = λ (n : ℕ). n < length k.names in
     let front = c.in-Some.front.now in
     let name = c.in-Some.name.now in
     let at = λ (n : ℕ). make_one c.args.word (Named (name_at k n)) in
-    let head = origin-number s t1 m upto1 c.in_ok-head.head (make_one c.args.word (Named name))
+    let head = origin-number s t1 upto1 c.in_ok-head.head (make_one c.args.word (Named name))
     c.in_ok-head.ensures.symbol in
-    let list = traced-origin t t1 m before.of one c.symbols.list c.symbols.invariant.inside in
+    let list = traced-origin t t1 before.is_run one c.symbols.list c.symbols.invariant.inside in
     record {
-      kept = traces-on s t1 t2 m upto1 two;
+      kept = traces-on s t1 t2 upto1 two;
       inside = c.in_ok-list-2.ensures.inside;
       numbers = subst (All P) (take_at front (name ∷ []) _ refl)
           (All-take P (length front) _ (subst (All P) split c.symbols.invariant.numbers));

@@ -9,7 +9,7 @@ use Rattle.ot_machine.proofs.session.Session.symbol_list_step.Given as goal
 
 abbrev pub invariant-symbols : goal.invariant-symbols
 invariant-symbols l = record {
-  kept : Traces l.fn.self l.self l.machine;
+  kept : Traces l.fn.self l.self;
   inside : l.list < length l.self.trace;
   numbers : All (λ n. n < length l.fn.self.kernel.names) l.rest;
   so_far : (let at = λ (n : ℕ). make_one l.fn.word (Named (name_at l.fn.self.kernel n)) in

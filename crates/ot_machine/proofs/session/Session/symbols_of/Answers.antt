@@ -14,7 +14,6 @@ operand-name-requires c =
 pub loop-pair-preserved : goal.loop-pair-preserved
 loop-pair-preserved c =
     let s = c.args.self.now in
-    let m = c.args.machine.now in
     let t = c.loop-pair.self in
     let u = c.made_of.new.self in
     let before = c.loop-pair.invariant.kept in
@@ -23,15 +22,15 @@ loop-pair-preserved c =
     let pair = c.pair-item.result in
     let here = item-inside (λ i. i < length s.trace) c.args.pairs.now c.loop-pair.pair-index pair c.requires.inside
     c.loop-pair-test.true c.pair-item.is in
-    let name = c.operand-name.ensures.operand ∙ ap (operand 0) (number-later s t m before pair here) in
+    let name = c.operand-name.ensures.operand ∙ ap (operand 0) (number-later s t before pair here) in
     record {
-      kept = traces-on s t u m before one;
+      kept = traces-on s t u before one;
       inside = more-inside (length t.trace) (length u.trace) symbols _ c.in_ok-symbol.symbol one.grown.longer
           c.loop-pair.invariant.inside c.in_ok-symbol.ensures.inside c.in_ok-push.ensures.items;
       made =
           one-more (origin_at u.trace) (λ i. constant_origin (operand 0 (origin_at s.trace i))) symbols _
           c.in_ok-symbol.symbol c.args.pairs.now c.loop-pair.pair-index pair c.loop-pair-test.true c.pair-item.is
           c.in_ok-push.ensures.items
-          (numbers-later t u m before.of one symbols c.loop-pair.invariant.inside ∙ c.loop-pair.invariant.made)
+          (numbers-later t u before.is_run one symbols c.loop-pair.invariant.inside ∙ c.loop-pair.invariant.made)
           (c.in_ok-symbol.ensures.number ∙ ap constant_origin name);
     }

@@ -6,20 +6,19 @@ use Rattle.ot_machine.proofs.session.Session.type_defining.Goals as goal
 
 pub defining_step-requires-clause-symbols : goal.defining_step-requires-clause-symbols
 defining_step-requires-clause-symbols c =
-    let m = c.args.machine.now in
     let s1 = c.symbol_steps.new.self in
     let s2 = c.symbol_steps-2.new.self in
     let s3 = c.symbol_steps-3.new.self in
     let two = c.in_ok-abs_name.ensures.kept in
     let three = c.in_ok-rep_name.ensures.kept in
-    let both = traces-on s1 s2 s3 m two three in
-    let n = number-later s1 s3 m both c.in_ok-name_step.name_step c.in_ok-name_step.ensures.name_step
+    let both = traces-on s1 s2 s3 two three in
+    let n = number-later s1 s3 both c.in_ok-name_step.name_step c.in_ok-name_step.ensures.name_step
     ∙ c.in_ok-name_step.ensures.name in
-    let op = number-later s1 s3 m both c.in_ok-name_step.op c.in_ok-name_step.ensures.symbol_step
+    let op = number-later s1 s3 both c.in_ok-name_step.op c.in_ok-name_step.ensures.symbol_step
     ∙ c.in_ok-name_step.ensures.symbol in
-    let a = number-later s2 s3 m three c.in_ok-abs_name.abs_name c.in_ok-abs_name.ensures.name_step
+    let a = number-later s2 s3 three c.in_ok-abs_name.abs_name c.in_ok-abs_name.ensures.name_step
     ∙ c.in_ok-abs_name.ensures.name in
-    let abs = number-later s2 s3 m three c.in_ok-abs_name.abs c.in_ok-abs_name.ensures.symbol_step
+    let abs = number-later s2 s3 three c.in_ok-abs_name.abs c.in_ok-abs_name.ensures.symbol_step
     ∙ c.in_ok-abs_name.ensures.symbol in
     let r = c.in_ok-rep_name.ensures.name in
     let rep = c.in_ok-rep_name.ensures.symbol in
@@ -29,7 +28,6 @@ defining_step-requires-clause-symbols c =
 pub returns-clause-made : goal.returns-clause-made
 returns-clause-made c =
     let s = c.args.self.now in
-    let m = c.args.machine.now in
     let s1 = c.symbol_steps.new.self in
     let s2 = c.symbol_steps-2.new.self in
     let s3 = c.symbol_steps-3.new.self in
@@ -38,27 +36,27 @@ returns-clause-made c =
     let two = c.in_ok-abs_name.ensures.kept in
     let three = c.in_ok-rep_name.ensures.kept in
     let four = c.in_ok-definition.ensures.kept in
-    let upto2 = traces-on s s1 s2 m one two in
-    let upto3 = traces-on s s2 s3 m upto2 three in
-    let from2 = traces-on s2 s3 s4 m three four in
-    let from1 = traces-on s1 s2 s4 m two from2 in
-    let n = traced-origin s1 s3 m one.of (traces-on s1 s2 s3 m two three) c.in_ok-name_step.name_step
+    let upto2 = traces-on s s1 s2 one two in
+    let upto3 = traces-on s s2 s3 upto2 three in
+    let from2 = traces-on s2 s3 s4 three four in
+    let from1 = traces-on s1 s2 s4 two from2 in
+    let n = traced-origin s1 s3 one.is_run (traces-on s1 s2 s3 two three) c.in_ok-name_step.name_step
     c.in_ok-name_step.ensures.name_step
-    ∙ origin-number s s1 m one c.in_ok-name_step.name_step (Named c.args.name) c.in_ok-name_step.ensures.name in
-    let a = traced-origin s2 s3 m two.of three c.in_ok-abs_name.abs_name c.in_ok-abs_name.ensures.name_step
-    ∙ origin-number s s2 m upto2 c.in_ok-abs_name.abs_name (Named c.args.abs) c.in_ok-abs_name.ensures.name in
-    let r = origin-number s s3 m upto3 c.in_ok-rep_name.rep_name (Named c.args.rep) c.in_ok-rep_name.ensures.name in
-    let list = traced-origin s s3 m c.requires.of upto3 c.args.list_step c.requires.list_step in
-    let premise = traced-origin s s3 m c.requires.of upto3 c.args.premise_step c.requires.premise_step in
+    ∙ origin-number s s1 one c.in_ok-name_step.name_step (Named c.args.name) c.in_ok-name_step.ensures.name in
+    let a = traced-origin s2 s3 two.is_run three c.in_ok-abs_name.abs_name c.in_ok-abs_name.ensures.name_step
+    ∙ origin-number s s2 upto2 c.in_ok-abs_name.abs_name (Named c.args.abs) c.in_ok-abs_name.ensures.name in
+    let r = origin-number s s3 upto3 c.in_ok-rep_name.rep_name (Named c.args.rep) c.in_ok-rep_name.ensures.name in
+    let list = traced-origin s s3 c.requires.run upto3 c.args.list_step c.requires.list_step in
+    let premise = traced-origin s s3 c.requires.run upto3 c.args.premise_step c.requires.premise_step in
     record {
-      op = traced-origin s1 s4 m one.of from1 c.in_ok-name_step.op c.in_ok-name_step.ensures.symbol_step
-          ∙ origin-number s s1 m one c.in_ok-name_step.op (type_op_origin (Named c.args.name))
+      op = traced-origin s1 s4 one.is_run from1 c.in_ok-name_step.op c.in_ok-name_step.ensures.symbol_step
+          ∙ origin-number s s1 one c.in_ok-name_step.op (type_op_origin (Named c.args.name))
           c.in_ok-name_step.ensures.symbol;
-      abs = traced-origin s2 s4 m two.of from2 c.in_ok-abs_name.abs c.in_ok-abs_name.ensures.symbol_step
-          ∙ origin-number s s2 m upto2 c.in_ok-abs_name.abs (constant_origin (Named c.args.abs))
+      abs = traced-origin s2 s4 two.is_run from2 c.in_ok-abs_name.abs c.in_ok-abs_name.ensures.symbol_step
+          ∙ origin-number s s2 upto2 c.in_ok-abs_name.abs (constant_origin (Named c.args.abs))
           c.in_ok-abs_name.ensures.symbol;
-      rep = traced-origin s3 s4 m three.of four c.in_ok-rep_name.rep c.in_ok-rep_name.ensures.symbol_step
-          ∙ origin-number s s3 m upto3 c.in_ok-rep_name.rep (constant_origin (Named c.args.rep))
+      rep = traced-origin s3 s4 three.is_run four c.in_ok-rep_name.rep c.in_ok-rep_name.ensures.symbol_step
+          ∙ origin-number s s3 upto3 c.in_ok-rep_name.rep (constant_origin (Named c.args.rep))
           c.in_ok-rep_name.ensures.symbol;
       definition = c.in_ok-definition.ensures.made
           ∙ (λ i. Define words.DefineTypeOp
@@ -73,9 +71,8 @@ returns-clause-made c =
 pub returns-clause-kept : goal.returns-clause-kept
 returns-clause-kept c =
     let s = c.args.self.now in
-    let m = c.args.machine.now in
-    traces-on s c.symbol_steps-3.new.self c.defining_step.new.self m
-    (traces-on s c.symbol_steps-2.new.self c.symbol_steps-3.new.self m
-    (traces-on s c.symbol_steps.new.self c.symbol_steps-2.new.self m c.in_ok-name_step.ensures.kept
+    traces-on s c.symbol_steps-3.new.self c.defining_step.new.self
+    (traces-on s c.symbol_steps-2.new.self c.symbol_steps-3.new.self
+    (traces-on s c.symbol_steps.new.self c.symbol_steps-2.new.self c.in_ok-name_step.ensures.kept
     c.in_ok-abs_name.ensures.kept) c.in_ok-rep_name.ensures.kept)
     c.in_ok-definition.ensures.kept

@@ -42,7 +42,7 @@ next c x h =
     let o = origin_of t c.loop-hyp.rest in
     let e = theorem_entry (given_of t c.loop-hyp.weaker) in
     let here = inside s.kernel hyps i hyp c.loop-hyp-test.true c.hyp-item.is c.requires.hyps in
-    let kept = stays-term s t c.args.machine.now c.requires.of c.loop-hyp.invariant.stays hyp here in
+    let kept = stays-term s t c.requires.run c.loop-hyp.invariant.stays hyp here in
     ap (λ l. weakened (term_entries (map (term_at s.kernel) l) o) e)
     (drop_more hyps i hyp c.loop-hyp-test.true ∙ ap (λ z. z ∷ drop (i + 1) hyps) (sym c.hyp-item.is))
     ∙ weakened-next (term_at s.kernel hyp) (map (term_at s.kernel) (drop (i + 1) hyps)) o e x
@@ -50,7 +50,7 @@ next c x h =
 
 pub loop-hyp-init : goal.loop-hyp-init
 loop-hyp-init c = record {
-  stays = stays-same c.args.self.now c.args.machine.now c.requires.of;
+  stays = stays-same c.args.self.now c.requires.run;
   theorem = c.requires.theorem;
   step = c.requires.step;
   rest = c.requires.list_step;
@@ -73,7 +73,7 @@ loop-hyp-preserved c =
     let ps = map (term_at c.args.self.now.kernel) (drop (c.loop-hyp.hyp-index + 1) c.args.hyps.now) in
     let rest = c.operand_of-rest.ensures.operand
     ∙ ap (operand 1)
-    (stays-origin c.loop-hyp.self u c.args.machine.now inv.stays.of there.stays c.loop-hyp.rest inv.rest) in
+    (stays-origin c.loop-hyp.self u inv.stays.is_run there.stays c.loop-hyp.rest inv.rest) in
     record {
       stays = stays-on inv.stays there.stays;
       theorem = there.theorem;

@@ -12,7 +12,7 @@ abbrev pub invariant-loop-hyp : goal.invariant-loop-hyp
 invariant-loop-hyp l =
     let k = l.fn.self.kernel in
     record {
-      stays : Stays l.fn.self l.self l.machine;
+      stays : Stays l.fn.self l.self;
       theorem : l.weaker.th < length l.self.kernel.theorems;
       step : l.weaker.step < length l.self.trace;
       rest : l.rest < length l.self.trace;

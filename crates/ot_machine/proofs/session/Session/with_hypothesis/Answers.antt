@@ -15,7 +15,7 @@ returns-then-has_hyp-clause-made c =
     (origin_of s c.args.given.step) (sym c.has_hyp.ensures ∙ c.if-has_hyp.true)
 
 pub returns-then-has_hyp-clause-stays : goal.returns-then-has_hyp-clause-stays
-returns-then-has_hyp-clause-stays c = stays-same c.args.self.now c.args.machine.now c.requires.of
+returns-then-has_hyp-clause-stays c = stays-same c.args.self.now c.requires.run
 
 pub returns-clause-made : goal.returns-clause-made
 returns-clause-made c =
