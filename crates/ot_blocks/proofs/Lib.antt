@@ -1,13 +1,9 @@
--- Members of lists, by the test and by recursion.
-pub mod Members
 -- How far the walk is.
 pub mod SoFar
 -- One step of the walk.
 pub mod Steps
--- The walk's bound is enough.
-pub mod Bounded
--- What the walk gives.
-pub mod Reaching
+-- What the laws of walks say of the order.
+pub mod Ordering
 -- The bytes and the parts of full names.
 pub mod FullNames
 -- What is collected from a list.

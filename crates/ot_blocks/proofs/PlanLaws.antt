@@ -6,7 +6,8 @@ use Rattle.std.proofs.lemmas.List.{length-map}
 use Rattle.ot_logic.specs.Answers.{◌>>=◌}
 use Rattle.ot_logic.specs.Lists.{IsMember}
 use Rattle.ot_theory.specs.Theory.{BlockText, has_block}
-use Rattle.ot_blocks.specs.Order.{Order, Ordered, LeadsBack, TooDeep, order_of, imports_at}
+use Rattle.ot_walk.specs.Walk.{Walk, Walked, Stops, TooDeep}
+use Rattle.ot_blocks.specs.Order.{order_of, imports_at}
 use Rattle.ot_blocks.specs.Structure.{Places, PlanText, block_places, imports_of, graph_of, faults_of}
 use Rattle.ot_blocks.specs.Structure.{structure_faults, first_fault, ordered, order_at, main_order}
 use Rattle.ot_blocks.specs.Structure.{imported_blocks, plan, PlanEnds, IsWithin, IsPlan, GivesPlan}
@@ -17,17 +18,16 @@ use Rattle.ot_blocks.specs.declared.structure.Plan.{Plan}
 use Rattle.ot_blocks.specs.declared.fault.PlanFault.{PlanFault}
 use Rattle.ot_blocks.specs.declared.fault.PlanFault.TheVariants.{At, Memory}
 use Rattle.ot_blocks.specs.declared.fault.StructureFault.{StructureFault}
-use Rattle.ot_blocks.proofs.Bounded.{ends_always}
+use Rattle.ot_blocks.proofs.Ordering.{ends_always, gives_order, member_map}
 use Rattle.ot_blocks.proofs.Placing.{graph_inside, main_inside, place_there, some_there}
-use Rattle.ot_blocks.proofs.Reaching.{gives_order}
 
 -- the plan, by its parts
-abbrev planned_after : Order → List (List Import) → Result (Unit {0}) (ℕ × StructureFault)
+abbrev planned_after : Walk ℕ ℕ → List (List Import) → Result (Unit {0}) (ℕ × StructureFault)
     → Result PlanText (ℕ × StructureFault)
 planned_after order g first =
     first >>= λ sound. ordered order >>= λ blocks. Ok (record { imports = imported_blocks g; order = blocks })
 
-abbrev planned : List (ℕ × StructureFault) → Order → List (List Import) → Result PlanText (ℕ × StructureFault)
+abbrev planned : List (ℕ × StructureFault) → Walk ℕ ℕ → List (List Import) → Result PlanText (ℕ × StructureFault)
 planned faults order g = planned_after order g (first_fault faults)
 
 -- ---- where the names lead to the places of the blocks
@@ -57,7 +57,7 @@ module _ (blocks : List BlockText) (places : Places)
         subst (λ z. main < length z) (graph_is g drawn)
         (main_inside blocks (codes "main") main (sym (holds (codes "main")) ∙ main_is))
 
-    plan_is : (order : Order) → faults_of places blocks ≡ [] → order_of g main ≡ order
+    plan_is : (order : Walk ℕ ℕ) → faults_of places blocks ≡ [] → order_of g main ≡ order
         → plan blocks ≡ planned [] order g
     plan_is order sound e =
         ap (λ fs. planned fs (main_order blocks) (graph_of (block_places blocks) blocks))
@@ -68,16 +68,16 @@ module _ (blocks : List BlockText) (places : Places)
 
     -- no fault
     pub plan_made : (order : List ℕ) (imports : List (List ℕ)) → faults_of places blocks ≡ []
-        → order_of g main ≡ Ordered order → imports ≡ imported_blocks g
+        → order_of g main ≡ Walked order → imports ≡ imported_blocks g
         → plan blocks ≡ Ok (record { imports = imports; order = order })
-    plan_made order imports sound e lists = plan_is (Ordered order) sound e ∙ ap with_imports (sym lists) where
+    plan_made order imports sound e lists = plan_is (Walked order) sound e ∙ ap with_imports (sym lists) where
       with_imports : List (List ℕ) → Result PlanText (ℕ × StructureFault)
       with_imports z = Ok (record { imports = z; order = order })
 
     -- a cycle
     pub order_refused : (e : PlanFault) → faults_of places blocks ≡ [] → Walks (Err e) (order_of g main)
         → Plans (Err e) (plan blocks)
-    order_refused (At line fault) sound e = plan_is (LeadsBack line) sound e.0 ∙ ap (λ f. Err (line, f)) (sym e.1)
+    order_refused (At line fault) sound e = plan_is (Stops line) sound e.0 ∙ ap (λ f. Err (line, f)) (sym e.1)
     order_refused (Memory memory) sound e = tt
 
 -- ---- what the plan names
@@ -87,21 +87,13 @@ reaches_inside g inside _ _ (Here b) lt = lt
 reaches_inside g inside _ _ (Along a c i is_import rest) lt =
     reaches_inside g inside i.block c rest (inside a i is_import)
 
-member_map : {X Y : Type 0} (f : X → Y) (xs : List X) (y : Y) → IsMember y (map f xs)
-    → (x : X) × (IsMember x xs × (f x ≡ y))
-member_map f [] y m = absurd m
-member_map f (x ∷ xs) y m = elim m [
-  | inl e ↦ (x, (inl refl, e))
-  | inr h ↦ let later = member_map f xs y h in (later.0, (inr later.1.0, later.1.1))
-]
-
 imported_inside : (g : List (List Import)) (n : ℕ)
     → ((b : ℕ) (i : Import) → IsMember i (imports_at g b) → i.block < n)
     → (b block : ℕ) → IsMember block (get_or (imported_blocks g) b []) → block < n
 imported_inside [] n inside b block m = absurd m
 imported_inside (is ∷ g) n inside zero block m =
-    let import = member_map (λ (i : Import). i.block) is block m in
-    subst (λ z. z < n) import.1.1 (inside 0 import.0 import.1.0)
+    let (i, there, same) = member_map (λ (i : Import). i.block) is block m in
+    subst (λ z. z < n) same (inside 0 i there)
 imported_inside (is ∷ g) n inside (suc b) block m = imported_inside g n (λ c. inside (suc c)) b block m
 
 -- ---- laws
@@ -141,14 +133,14 @@ gives_plan blocks p has_main is =
 
     by_faults : (main : ℕ) → block_places blocks (codes "main") ≡ Some main → (faults : List (ℕ × StructureFault))
         → structure_faults blocks ≡ faults
-        → (order : Order) → order ≡ order_of (graph_of (block_places blocks) blocks) main
+        → (order : Walk ℕ ℕ) → order ≡ order_of (graph_of (block_places blocks) blocks) main
         → planned faults order (graph_of (block_places blocks) blocks) ≡ Ok p → IsPlan blocks p
     by_faults main at (f ∷ fs) sound order order_is is = cc
-    by_faults main at [] sound (LeadsBack line) order_is is = cc
+    by_faults main at [] sound (Stops line) order_is is = cc
     by_faults main at [] sound TooDeep order_is is =
         absurd (ends_always (graph_of (block_places blocks) blocks) main (graph_inside blocks)
         (main_inside blocks (codes "main") main at) (sym order_is))
-    by_faults main at [] sound (Ordered order) order_is is =
+    by_faults main at [] sound (Walked order) order_is is =
         let same : record { imports = imported_blocks (graph_of (block_places blocks) blocks); order = order } ≡ p = cc in
         subst (IsPlan blocks) same record {
           sound = sound;

@@ -1,11 +1,24 @@
 -- How far the walk is: its marks, and the path that is left to do.
 use Rattle.std.proofs.Common.{◌≡◌, ◌<◌, ◌≤◌, ◌+◌, ◌-◌, ℕ, suc, List, [], ◌∷◌, ◌++◌, length, map, drop, get_or}
-use Rattle.std.specs.Prelude.{if◌then◌else◌}
-use Rattle.ot_blocks.specs.Order.{Order, Ordered, ◌>>=◌, walk_imports, walk_block, imports_at, is_in}
+use Rattle.std.specs.Prelude.{Bool, if◌then◌else◌, ◌==◌}
+use Rattle.ot_walk.specs.Walk as walk
+use Rattle.ot_walk.specs.Walk.{Walk, Walked, ◌>>=◌, walk_edges, walk_key}
+use Rattle.ot_blocks.specs.Order.{imports_at, edge_of, edges_of}
 use Rattle.ot_blocks.specs.declared.walk.Import.{Import}
 use Rattle.ot_blocks.specs.declared.walk.Frame.{Frame}
 use Rattle.ot_blocks.specs.declared.walk.Mark.{Mark}
 use Rattle.ot_blocks.specs.declared.walk.Mark.TheVariants.{New, Open, Done}
+
+-- ---- parts of the walk
+
+abbrev pub is_in : List ℕ → ℕ → Bool
+is_in bs b = walk.is_in (λ x y. x == y) bs b
+
+abbrev pub walk_imports : List (List Import) → (List ℕ → ℕ → Walk ℕ ℕ) → List ℕ → List Import → List ℕ → Walk ℕ ℕ
+walk_imports g visit path is done = walk_edges (λ x y. x == y) (edges_of g) visit path (map edge_of is) done
+
+abbrev pub walk_block : ℕ → List (List Import) → List ℕ → List ℕ → ℕ → Walk ℕ ℕ
+walk_block n g path done b = walk_key (λ x y. x == y) (edges_of g) n path done b
 
 -- ---- the path
 
@@ -13,10 +26,10 @@ abbrev pub blocks_of : List Frame → List ℕ
 blocks_of fs = map (λ f. f.block) fs
 
 -- the rest of the walk from a path, its end first
-abbrev pub rest_of : List (List Import) → List Frame → ℕ → List ℕ → Order
-rest_of g [] bound done = Ordered done
+abbrev pub rest_of : List (List Import) → List Frame → ℕ → List ℕ → Walk ℕ ℕ
+rest_of g [] bound done = Walked done
 rest_of g (f ∷ fs) bound done =
-    walk_imports (walk_block bound g (f.block ∷ blocks_of fs)) (f.block ∷ blocks_of fs)
+    walk_imports g (walk_block bound g (f.block ∷ blocks_of fs)) (f.block ∷ blocks_of fs)
     (drop f.next (imports_at g f.block)) done
     >>= λ more. rest_of g fs (suc bound) (more ++ f.block ∷ [])
 
@@ -43,7 +56,7 @@ new_count (Done ∷ ms) = new_count ms
 -- ---- the walk as a whole
 
 -- what is left of the walk gives the whole order; a block that is new pays for one level of the bound
-pub record SoFar (g : List (List Import)) (whole : Order) (marks : List Mark) (fs : List Frame) (done : List ℕ) : Type
+pub record SoFar (g : List (List Import)) (whole : Walk ℕ ℕ) (marks : List Mark) (fs : List Frame) (done : List ℕ) : Type
     0 where
   pub bound : ℕ
   pub enough : new_count marks ≤ bound

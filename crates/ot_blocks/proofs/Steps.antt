@@ -7,10 +7,11 @@ use Rattle.std.proofs.Math.Seq.{drop-cons}
 use Rattle.std.proofs.lemmas.Bool.Decides.{eqb_tells}
 use Rattle.std.proofs.lemmas.List.{reverse-append, get_or-set_same, get_or-set_other, get_or-replicate, length-set}
 use Rattle.std.proofs.lemmas.Option.{slice_get_within, slice_get_read, get_or_from_slice_get}
-use Rattle.ot_blocks.specs.Order.{Order, Ordered, LeadsBack, TooDeep, ◌>>=◌}
-use Rattle.ot_blocks.specs.Order.{walk_imports, walk_block, order_of, imports_at, is_in}
+use Rattle.ot_walk.specs.Walk.{Walk, Walked, Stops, TooDeep, ◌>>=◌}
+use Rattle.ot_walk.proofs.Rest.{bind_walked}
+use Rattle.ot_blocks.specs.Order.{order_of, imports_at}
 use Rattle.ot_blocks.specs.Ordering.{NamesBlocks}
-use Rattle.ot_blocks.proofs.SoFar.{blocks_of, rest_of, mark_of, new_count, new_work, path_work, Marked, SoFar}
+use Rattle.ot_blocks.proofs.SoFar.{is_in, walk_imports, walk_block, blocks_of, rest_of, mark_of, new_count, new_work, path_work, Marked, SoFar}
 use Rattle.ot_blocks.specs.declared.walk.Import.{Import}
 use Rattle.ot_blocks.specs.declared.walk.Frame.{Frame}
 use Rattle.ot_blocks.specs.declared.walk.Mark.{Mark}
@@ -38,9 +39,9 @@ drop_at xs k x e =
     drop-cons xs k x (slice_get_within xs k x e) ∙ ap (λ z. z ∷ drop (suc k) xs) (get_or_from_slice_get xs k x x e)
     ∙ ap (λ n. x ∷ drop n xs) (sym (add-one k))
 
-pub bind_assoc : (o : Order) (f g : List ℕ → Order) → (o >>= f) >>= g ≡ o >>= (λ bs. f bs >>= g)
-bind_assoc (Ordered bs) f g = refl
-bind_assoc (LeadsBack n) f g = refl
+pub bind_assoc : (o : Walk ℕ ℕ) (f g : List ℕ → Walk ℕ ℕ) → (o >>= f) >>= g ≡ o >>= (λ bs. f bs >>= g)
+bind_assoc (Walked bs) f g = refl
+bind_assoc (Stops n) f g = refl
 bind_assoc TooDeep f g = refl
 
 -- blocks that are new
@@ -147,20 +148,20 @@ pub mark_done : (path done : List ℕ) (b : ℕ) → Done ≡ mark_of path (done
 mark_done path done b = rw (in_last done b) refl
 
 -- one import
-pub walk_known : (v : List ℕ → ℕ → Order) (p : List ℕ) (xs : List Import) (k : ℕ) (i : Import) (done : List ℕ)
-    → slice_get xs k ≡ Some i → is_in done i.block ≡ true → walk_imports v p (drop k xs) done
-    ≡ walk_imports v p (drop (k + 1) xs) done
-walk_known v p xs k i done e h = rw (drop_at xs k i e) (rw h refl)
+pub walk_known : (g : List (List Import)) (v : List ℕ → ℕ → Walk ℕ ℕ) (p : List ℕ) (xs : List Import) (k : ℕ) (i : Import) (done : List ℕ)
+    → slice_get xs k ≡ Some i → is_in done i.block ≡ true → walk_imports g v p (drop k xs) done
+    ≡ walk_imports g v p (drop (k + 1) xs) done
+walk_known g v p xs k i done e h = rw (drop_at xs k i e) (rw h refl)
 
-pub walk_back : (v : List ℕ → ℕ → Order) (p : List ℕ) (xs : List Import) (k : ℕ) (i : Import) (done : List ℕ)
+pub walk_back : (g : List (List Import)) (v : List ℕ → ℕ → Walk ℕ ℕ) (p : List ℕ) (xs : List Import) (k : ℕ) (i : Import) (done : List ℕ)
     → slice_get xs k ≡ Some i → is_in done i.block ≡ false → is_in p i.block ≡ true
-    → walk_imports v p (drop k xs) done ≡ LeadsBack i.line
-walk_back v p xs k i done e h h2 = rw (drop_at xs k i e) (rw (h, h2) refl)
+    → walk_imports g v p (drop k xs) done ≡ Stops i.line
+walk_back g v p xs k i done e h h2 = rw (drop_at xs k i e) (rw (h, h2) refl)
 
-pub walk_new : (v : List ℕ → ℕ → Order) (p : List ℕ) (xs : List Import) (k : ℕ) (i : Import) (done : List ℕ)
+pub walk_new : (g : List (List Import)) (v : List ℕ → ℕ → Walk ℕ ℕ) (p : List ℕ) (xs : List Import) (k : ℕ) (i : Import) (done : List ℕ)
     → slice_get xs k ≡ Some i → is_in done i.block ≡ false → is_in p i.block ≡ false
-    → walk_imports v p (drop k xs) done ≡ (v done i.block >>= walk_imports v p (drop (k + 1) xs))
-walk_new v p xs k i done e h h2 = rw (drop_at xs k i e) (rw (h, h2) refl)
+    → walk_imports g v p (drop k xs) done ≡ (v done i.block >>= walk_imports g v p (drop (k + 1) xs))
+walk_new g v p xs k i done e h h2 = rw (drop_at xs k i e) (rw (h, h2) refl)
 
 pub drop_past : {X : Type 0} (xs : List X) (k : ℕ) → slice_get xs k ≡ None → drop k xs ≡ []
 drop_past [] zero e = refl
@@ -187,7 +188,8 @@ start g ms main lt e =
       marked = marked_set (length g) ms [] [] (main ∷ []) [] main Open (record { size = size; each = each }) lt
           (mark_here [] [] main refl) (mark_opened [] [] main);
       whole_is = let one : suc (length g - 1) ≡ length g = omega (arith, lt) in
-          ap (λ n. walk_block n g [] [] main) one;
+          sym (bind_walked (walk_block (suc (length g - 1)) g [] [] main))
+          ∙ ap (λ n. walk_block n g [] [] main >>= λ order. Walked order) one;
     } where
       length_new : (n : ℕ) → length (replicate n New) ≡ n
       length_new zero = refl
@@ -200,14 +202,14 @@ rest_new : (g : List (List Import)) (b k n : ℕ) (fs : List Frame) (done : List
     ≡ rest_of g (record { block = i.block; next = 0 } ∷ record { block = b; next = k + 1 } ∷ fs) n done
 rest_new g b k n fs done i e h h2 =
     let path = b ∷ blocks_of fs in
-    let below : List ℕ → Order = λ more. rest_of g fs (suc (suc n)) (more ++ b ∷ []) in
-    let others : List ℕ → Order = walk_imports (walk_block (suc n) g path) path (drop (k + 1) (imports_at g b)) in
-    let own : Order = walk_imports (walk_block n g (i.block ∷ path)) (i.block ∷ path) (imports_at g i.block) done in
-    ap (λ o. o >>= below) (walk_new (walk_block (suc n) g path) path (imports_at g b) k i done e h h2)
+    let below : List ℕ → Walk ℕ ℕ = λ more. rest_of g fs (suc (suc n)) (more ++ b ∷ []) in
+    let others : List ℕ → Walk ℕ ℕ = walk_imports g (walk_block (suc n) g path) path (drop (k + 1) (imports_at g b)) in
+    let own : Walk ℕ ℕ = walk_imports g (walk_block n g (i.block ∷ path)) (i.block ∷ path) (imports_at g i.block) done in
+    ap (λ o. o >>= below) (walk_new g (walk_block (suc n) g path) path (imports_at g b) k i done e h h2)
     ∙ bind_assoc (walk_block (suc n) g path done i.block) others below
-    ∙ bind_assoc own (λ more. Ordered (more ++ i.block ∷ [])) (λ bs. others bs >>= below)
+    ∙ bind_assoc own (λ more. Walked (more ++ i.block ∷ [])) (λ bs. others bs >>= below)
 
-module _ {g : List (List Import)} {whole : Order} {ms : List Mark} {b k : ℕ} {fs : List Frame} {done : List ℕ} where
+module _ {g : List (List Import)} {whole : Walk ℕ ℕ} {ms : List Mark} {b k : ℕ} {fs : List Frame} {done : List ℕ} where
   -- an import of a block that is done
   pub step_known : (i : Import) → SoFar g whole ms (record { block = b; next = k } ∷ fs) done
       → slice_get (imports_at g b) k ≡ Some i → get_or ms i.block New ≡ Done → i.block < length g
@@ -222,7 +224,7 @@ module _ {g : List (List Import)} {whole : Order} {ms : List Mark} {b k : ℕ} {
         marked = s.marked;
         whole_is =
             ap (λ o. o >>= λ more. rest_of g fs (suc s.bound) (more ++ b ∷ []))
-            (sym (walk_known (walk_block s.bound g (b ∷ blocks_of fs)) (b ∷ blocks_of fs) (imports_at g b) k i
+            (sym (walk_known g (walk_block s.bound g (b ∷ blocks_of fs)) (b ∷ blocks_of fs) (imports_at g b) k i
             done e known))
             ∙ s.whole_is;
       }
@@ -230,12 +232,12 @@ module _ {g : List (List Import)} {whole : Order} {ms : List Mark} {b k : ℕ} {
   -- an import that leads back
   pub step_back : (i : Import) → SoFar g whole ms (record { block = b; next = k } ∷ fs) done
       → slice_get (imports_at g b) k ≡ Some i → get_or ms i.block New ≡ Open → i.block < length g
-      → whole ≡ LeadsBack i.line
+      → whole ≡ Stops i.line
   step_back i s e m lt =
       let back =
       is_open (is_in done i.block) (is_in (b ∷ blocks_of fs) i.block) (sym (s.marked.each i.block lt) ∙ m) in
       sym s.whole_is ∙ ap (λ o. o >>= λ more. rest_of g fs (suc s.bound) (more ++ b ∷ []))
-      (walk_back (walk_block s.bound g (b ∷ blocks_of fs)) (b ∷ blocks_of fs) (imports_at g b) k i done e back.0
+      (walk_back g (walk_block s.bound g (b ∷ blocks_of fs)) (b ∷ blocks_of fs) (imports_at g b) k i done e back.0
       back.1)
 
   -- an import of a block that is new
@@ -263,7 +265,7 @@ module _ {g : List (List Import)} {whole : Order} {ms : List Mark} {b k : ℕ} {
   step_end : (s : SoFar g whole ms (record { block = b; next = k } ∷ fs) done) → slice_get (imports_at g b) k ≡ None
       → rest_of g fs (suc s.bound) (done ++ b ∷ []) ≡ whole
   step_end s e =
-      ap (λ xs. walk_imports (walk_block s.bound g (b ∷ blocks_of fs)) (b ∷ blocks_of fs) xs done
+      ap (λ xs. walk_imports g (walk_block s.bound g (b ∷ blocks_of fs)) (b ∷ blocks_of fs) xs done
       >>= λ more. rest_of g fs (suc s.bound) (more ++ b ∷ [])) (sym (drop_past (imports_at g b) k e))
       ∙ s.whole_is
 
@@ -283,7 +285,7 @@ module _ {g : List (List Import)} {whole : Order} {ms : List Mark} {b k : ℕ} {
 
   -- the last block is done
   pub step_last : fs ≡ [] → SoFar g whole ms (record { block = b; next = k } ∷ fs) done → slice_get (imports_at g b) k
-      ≡ None → whole ≡ Ordered (done ++ b ∷ [])
+      ≡ None → whole ≡ Walked (done ++ b ∷ [])
   step_last none s e = sym (step_end s e) ∙ ap (λ fs. rest_of g fs (suc s.bound) (done ++ b ∷ [])) none
 
   -- ---- the measure

@@ -4,7 +4,7 @@ use Rattle.std.specs.Borrow.{Bor}
 use Rattle.std.specs.Global.{Global}
 use Rattle.std.specs.HashMap.{HashMap, get_by}
 use Rattle.std.specs.Str.{bytes_eq}
-use Rattle.ot_blocks.specs.Order.{Order, Ordered, LeadsBack}
+use Rattle.ot_walk.specs.Walk.{Walk, Walked, Stops}
 use Rattle.ot_blocks.specs.Structure.{Places, PlanText, first_fault}
 use Rattle.ot_blocks.specs.declared.walk.Import.{Import}
 use Rattle.ot_blocks.specs.declared.structure.Plan.{Plan}
@@ -32,9 +32,9 @@ Plans (Err (Memory memory)) stated = Unit {0}
 -- ---- its parts
 
 -- the stated order, or the line that leads back
-abbrev pub Walks : Result (Vec ℕ Global) PlanFault → Order → Type 0
-Walks (Ok order) stated = stated ≡ Ordered order.items
-Walks (Err (At line fault)) stated = (stated ≡ LeadsBack line) × (fault ≡ ImportCycle)
+abbrev pub Walks : Result (Vec ℕ Global) PlanFault → Walk ℕ ℕ → Type 0
+Walks (Ok order) stated = stated ≡ Walked order.items
+Walks (Err (At line fault)) stated = (stated ≡ Stops line) × (fault ≡ ImportCycle)
 Walks (Err (Memory memory)) stated = Unit {0}
 
 -- where a map of names leads

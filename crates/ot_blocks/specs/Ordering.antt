@@ -1,7 +1,8 @@
 -- Laws of the order, in other words.
 use Rattle.std.specs.Prelude.{◌≡◌, ◌≢◌, ◌<◌, ℕ, List, [], ◌∷◌, ◌++◌, length}
 use Rattle.ot_logic.specs.Lists.{IsMember, AreDistinct}
-use Rattle.ot_blocks.specs.Order.{Ordered, LeadsBack, TooDeep, order_of, imports_at}
+use Rattle.ot_walk.specs.Walk.{Walked, Stops, TooDeep}
+use Rattle.ot_blocks.specs.Order.{order_of, imports_at}
 use Rattle.ot_blocks.specs.declared.walk.Import.{Import}
 
 -- each import names a block of the file
@@ -36,9 +37,9 @@ EndsAlways = (g : List (List Import)) (main : ℕ) → NamesBlocks g → main < 
 
 -- a law: what the order is
 abbrev pub GivesOrder : Type 0
-GivesOrder = (g : List (List Import)) (main : ℕ) (order : List ℕ) → order_of g main ≡ Ordered order
+GivesOrder = (g : List (List Import)) (main : ℕ) (order : List ℕ) → order_of g main ≡ Walked order
     → IsOrder g main order
 
 -- a law: where there is no order, there is a cycle
 abbrev pub GivesCycle : Type 0
-GivesCycle = (g : List (List Import)) (main line : ℕ) → order_of g main ≡ LeadsBack line → HasCycleAt g main line
+GivesCycle = (g : List (List Import)) (main line : ℕ) → order_of g main ≡ Stops line → HasCycleAt g main line

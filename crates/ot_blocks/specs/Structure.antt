@@ -10,7 +10,8 @@ use Rattle.ot_theory.specs.Theory.{TagText, BlockText, has_block}
 use Rattle.ot_theory.specs.Values.{key_of, is_source}
 use Rattle.ot_theory.specs.declared.keys.Key.{Key}
 use Rattle.ot_theory.specs.declared.keys.Key.TheVariants as keys
-use Rattle.ot_blocks.specs.Order.{Order, Ordered, LeadsBack, TooDeep, order_of}
+use Rattle.ot_walk.specs.Walk.{Walk, Walked, Stops, TooDeep}
+use Rattle.ot_blocks.specs.Order.{order_of}
 use Rattle.ot_blocks.specs.Ordering.{IsOrder}
 use Rattle.ot_blocks.specs.Paths.{is_package}
 use Rattle.ot_blocks.specs.declared.walk.Import.{Import}
@@ -88,12 +89,12 @@ abbrev pub imported_blocks : List (List Import) → List (List ℕ)
 imported_blocks g = map (λ is. map (λ i. i.block) is) g
 
 -- the order from this block, if there is one
-abbrev pub order_at : List (List Import) → Option ℕ → Order
-order_at g None = Ordered []
+abbrev pub order_at : List (List Import) → Option ℕ → Walk ℕ ℕ
+order_at g None = Walked []
 order_at g (Some main) = order_of g main
 
 -- the order from `main`
-abbrev pub main_order : List BlockText → Order
+abbrev pub main_order : List BlockText → Walk ℕ ℕ
 main_order blocks = order_at (graph_of (block_places blocks) blocks) (block_places blocks (codes "main"))
 
 -- the first of these faults, or none
@@ -102,9 +103,9 @@ first_fault [] = Ok tt
 first_fault (fault ∷ faults) = Err fault
 
 -- the order, or the line that leads back; that the bound ran out never comes
-abbrev pub ordered : Order → Result (List ℕ) (ℕ × StructureFault)
-ordered (Ordered order) = Ok order
-ordered (LeadsBack line) = Err (line, ImportCycle)
+abbrev pub ordered : Walk ℕ ℕ → Result (List ℕ) (ℕ × StructureFault)
+ordered (Walked order) = Ok order
+ordered (Stops line) = Err (line, ImportCycle)
 ordered TooDeep = Ok []
 
 -- the plan of a theory file, or its first fault: those of its statements come before a cycle

@@ -1,11 +1,3 @@
--- What a walk gives.
-pub mod Walking
--- The order of first edges.
-pub mod Turns
--- The walk's bound is enough.
-pub mod Ending
--- The rest of a walk.
-pub mod Rest
 -- The packages that are required.
 pub mod Requiring
 -- The list of installed packages.

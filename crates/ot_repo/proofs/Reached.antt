@@ -15,8 +15,8 @@ use Rattle.ot_theory.specs.Theory.{TagText, TheoryText, theory}
 use Rattle.ot_theory.specs.Answers.{tag_of, tags_of, theory_of}
 use Rattle.ot_theory.specs.declared.theory.Tag.{Tag}
 use Rattle.ot_theory.specs.declared.theory.Theory.{Theory}
-use Rattle.ot_repo.specs.Walk.{Edge, walk_from}
-use Rattle.ot_repo.specs.Walks.{Reaches, First, Further, IsReached}
+use Rattle.ot_walk.specs.Walk.{Edge, walk_from}
+use Rattle.ot_walk.specs.Walks.{Reaches, First, Further, IsReached}
 use Rattle.ot_repo.specs.Required.{Refusal, TheoryTooLarge, IndexTooLarge, text_at, in_file}
 use Rattle.ot_repo.specs.Required.{theory_at, is_requirement, requirements}
 use Rattle.ot_repo.specs.Required.{names_of, index_at, index_path, edges_in, edges_of, walked}

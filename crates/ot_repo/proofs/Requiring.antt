@@ -14,17 +14,17 @@ use Rattle.ot_logic.specs.Lists.{IsMember}
 use Rattle.ot_logic.specs.Answers.{◌>>=◌, some_or}
 use Rattle.ot_theory.specs.Theory.{TagText, TheoryText}
 use Rattle.ot_blocks.specs.Paths.{name_part, package_path}
-use Rattle.ot_repo.specs.Walk.{Edge, Walk, Walked, Stops, TooDeep, walk_from}
-use Rattle.ot_repo.specs.Walks.{HasEdge, Reaches, Leads, LeadInto, HasStop, StaysIn}
-use Rattle.ot_repo.specs.Walks as walks
+use Rattle.ot_walk.specs.Walk.{Edge, Walk, Walked, Stops, TooDeep, walk_from}
+use Rattle.ot_walk.specs.Walks.{HasEdge, Reaches, Leads, LeadInto, HasStop, StaysIn}
+use Rattle.ot_walk.specs.Walks as walks
 use Rattle.ot_repo.specs.Required.{Refusal, NotInstalled, theory_at, requirements, index_path, index_at, picked}
 use Rattle.ot_repo.specs.Required.{edge_of, edges_in, edges_of, walked, required_listed, required_over, required_by}
 use Rattle.ot_repo.specs.Laws.{ArePicked, Requires, IsNeeded, ByTag, ByPackage, LeadsTo, Same, Along}
 use Rattle.ot_repo.specs.Laws.{IsRequired, IsFile, First, OfPackage, IsRefused, BadFile, NoPackage}
 use Rattle.ot_repo.specs.Laws.{Round, AreRequired, GivesRequired, GivesRefusal, RequiredEnds}
-use Rattle.ot_repo.proofs.Walking.{gives_walk, gives_stop}
-use Rattle.ot_repo.proofs.Turns.{gives_turns}
-use Rattle.ot_repo.proofs.Ending.{ends_always}
+use Rattle.ot_walk.proofs.Walking.{gives_walk, gives_stop}
+use Rattle.ot_walk.proofs.Turns.{gives_turns}
+use Rattle.ot_walk.proofs.Ending.{ends_always}
 use Rattle.ot_logic.proofs.Members.{IsMember-push}
 use Rattle.ot_logic.proofs.Results.{bind-ok, same_Ok, some_or-ok}
 

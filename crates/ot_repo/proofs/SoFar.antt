@@ -4,14 +4,14 @@ use Rattle.std.specs.List.{list_any, filter}
 use Rattle.std.specs.Str.{bytes_eq}
 use Rattle.std.proofs.Common.{◌≡◌, ◌+◌, ◌*◌, ℕ, Bool, true, false, List, [], ◌∷◌, map, length, Result, Some, None}
 use Rattle.ot_logic.specs.Lists.{IsMember}
-use Rattle.ot_repo.specs.Walk.{Edge, Walk}
+use Rattle.ot_walk.specs.Walk.{Edge, Walk}
 use Rattle.ot_repo.specs.Required.{Refusal}
 use Rattle.ot_repo.specs.Reading.{edges_left, AreListed}
 use Rattle.ot_repo.specs.declared.requirements.File.{File}
 use Rattle.ot_repo.specs.declared.walk.Waiting.{Waiting}
 use Rattle.ot_repo.specs.declared.walk.Mark.{Mark}
 use Rattle.ot_repo.specs.declared.walk.Mark.TheVariants.{Open, Done}
-use Rattle.ot_repo.proofs.Rest.{path_of, rest_of}
+use Rattle.ot_walk.proofs.Rest.{path_of, rest_of}
 
 -- a package that is walked, and the edges that are left of the file that waits for it
 abbrev pub level_of : Waiting → List ℕ × List (Edge (List ℕ) Refusal)

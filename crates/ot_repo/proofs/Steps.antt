@@ -13,7 +13,7 @@ use Rattle.std.proofs.lemmas.Bool.{cases_Bool}
 use Rattle.std.proofs.lemmas.List.{reverse-append, length-append}
 use Rattle.std.proofs.lemmas.List.Folds.{list_any-append}
 use Rattle.ot_logic.specs.Lists.{IsMember}
-use Rattle.ot_repo.specs.Walk.{Edge, Walk, TooDeep, walk_from}
+use Rattle.ot_walk.specs.Walk.{Edge, Walk, TooDeep, walk_from}
 use Rattle.ot_io.specs.Folder.{Folder}
 use Rattle.ot_repo.specs.Required.{Refusal, Theory, TheoryTooLarge, IndexTooLarge, BadIndex}
 use Rattle.ot_repo.specs.Required.{NotInstalled, RequiresCycle, Missing, edges_of, walked}
@@ -26,12 +26,12 @@ use Rattle.ot_repo.specs.declared.requirements.Requirement.{Requirement}
 use Rattle.ot_repo.specs.declared.walk.Waiting.{Waiting}
 use Rattle.ot_repo.specs.declared.walk.Mark.{Mark}
 use Rattle.ot_repo.specs.declared.walk.Mark.TheVariants.{Open, Done}
-use Rattle.ot_blocks.proofs.Members.{member_end}
-use Rattle.ot_repo.proofs.Ending.{ends_always}
+use Rattle.ot_walk.proofs.Members.{member_end}
+use Rattle.ot_walk.proofs.Ending.{ends_always}
 use Rattle.ot_repo.proofs.Requiring.{stays}
 use Rattle.ot_repo.proofs.Tags.{listed_reversed}
-use Rattle.ot_repo.proofs.Rest.{path_of, rest_of, rest_nowhere, rest_known}
-use Rattle.ot_repo.proofs.Rest.{rest_back, rest_zero, rest_stopped, rest_new}
+use Rattle.ot_walk.proofs.Rest.{path_of, rest_of, rest_nowhere, rest_known}
+use Rattle.ot_walk.proofs.Rest.{rest_back, rest_zero, rest_stopped, rest_new}
 use Rattle.ot_repo.proofs.SoFar.{level_of, levels_of, is_among, mark_of, IsMarked, IsLevel}
 use Rattle.ot_repo.proofs.SoFar.{SoFar, Rests, is_new, new_count, stack_work, work}
 use Rattle.ot_logic.proofs.Members.{IsMember-left}

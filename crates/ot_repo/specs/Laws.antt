@@ -5,7 +5,7 @@ use Rattle.ot_io.specs.Folder.{Folder}
 use Rattle.ot_logic.specs.Lists.{IsMember, AreDistinct}
 use Rattle.ot_theory.specs.Theory.{TagText, TheoryText}
 use Rattle.ot_blocks.specs.Paths.{package_path}
-use Rattle.ot_repo.specs.Walk.{TooDeep, walk_from}
+use Rattle.ot_walk.specs.Walk.{TooDeep, walk_from}
 use Rattle.ot_repo.specs.Required.{Refusal, NotInstalled, RequiresCycle, theory_at, requirements}
 use Rattle.ot_repo.specs.Required.{index_at, index_path, picked, edges_in, edges_of, required}
 

@@ -1,6 +1,4 @@
 -- What a reader of the contracts has to believe: the packages that a theory file requires.
-pub mod Walk
-pub mod Walks
 pub mod Required
 pub mod Answers
 pub mod Laws

@@ -10,8 +10,8 @@ use Rattle.ot_logic.specs.Answers.{◌>>=◌, some_or}
 use Rattle.ot_logic.specs.Lists.{IsMember}
 use Rattle.ot_blocks.specs.Paths.{package_path}
 use Rattle.ot_theory.specs.Theory.{TagText}
-use Rattle.ot_repo.specs.Walk.{Edge}
-use Rattle.ot_repo.specs.Walks.{Reaches}
+use Rattle.ot_walk.specs.Walk.{Edge}
+use Rattle.ot_walk.specs.Walks.{Reaches}
 use Rattle.ot_repo.specs.Laws.{IsNeeded}
 use Rattle.ot_repo.specs.Answers.{ArePackages}
 use Rattle.ot_repo.specs.Required.{Refusal, NotInstalled, RequiresCycle, file_at, index_at, index_path, picked}

@@ -10,7 +10,7 @@ use Rattle.ot_theory.specs.Lines.{LineText, lines_of}
 use Rattle.ot_theory.specs.Theory.{TagText, TheoryText, theory}
 use Rattle.ot_theory.specs.declared.fault.TheoryFault.{TheoryFault}
 use Rattle.ot_blocks.specs.Paths.{is_package, name_part, package_path}
-use Rattle.ot_repo.specs.Walk.{Edge, Walk, Walked, Stops, TooDeep, walk_from}
+use Rattle.ot_walk.specs.Walk.{Edge, Walk, Walked, Stops, TooDeep, walk_from}
 
 -- why packages are refused, with the path of the file and the line; or the path of a file that is missing
 pub data Refusal : Type 0 where

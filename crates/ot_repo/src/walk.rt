@@ -5,7 +5,7 @@ ghost use Rattle.std.specs.Str.{bytes_eq};
 ghost use Rattle.std.specs.String.{string_bytes};
 ghost use Rattle.ot_io.specs.Readings.{HasReadFiles};
 ghost use Rattle.ot_io.specs.Keeping.{KeepsFiles};
-ghost use Rattle.ot_repo.specs.Walk.{walk_from};
+ghost use Rattle.ot_walk.specs.Walk.{walk_from};
 ghost use Rattle.ot_repo.specs.Required.{edges_of, walked};
 ghost use Rattle.ot_repo.specs.Answers.{ArePackages, IsAsStated, IsAnswer, names_of, HasCause, IsOfContent};
 ghost use Rattle.ot_repo.specs.Reading.{listed_in, IsIndex, IsReachedFile, edge_at};

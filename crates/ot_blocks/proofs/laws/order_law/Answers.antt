@@ -1,5 +1,4 @@
-use Rattle.ot_blocks.proofs.Bounded.{ends_always}
-use Rattle.ot_blocks.proofs.Reaching.{gives_order, gives_cycle}
+use Rattle.ot_blocks.proofs.Ordering.{ends_always, gives_order, gives_cycle}
 use Rattle.ot_blocks.proofs.laws.order_law.Goals as goal
 
 pub returns-clause-ends : goal.returns-clause-ends

@@ -7,14 +7,14 @@ use Rattle.std.proofs.lemmas.Result.{err_from_is_err_and}
 use Rattle.ot_logic.specs.Lists.{IsMember}
 use Rattle.ot_io.proofs.Keeping.{KeepsFiles-then}
 use Rattle.ot_io.proofs.Readings.{Files-none, Files-map, Files-next}
-use Rattle.ot_repo.specs.Walk.{walk_from}
+use Rattle.ot_walk.specs.Walk.{walk_from}
 use Rattle.ot_repo.specs.Required.{edges_of, walked}
 use Rattle.ot_repo.specs.Answers.{ArePackages, names_of}
 use Rattle.ot_blocks.specs.Paths.{package_path}
 use Rattle.ot_repo.specs.Reading.{listed_in, IsReachedFile, edge_at, edges_left, mark_in, next_at}
 use Rattle.ot_repo.specs.declared.requirements.File.{File}
 use Rattle.ot_repo.proofs.Picking.{packages_more}
-use Rattle.ot_repo.proofs.Rest.{rest_start}
+use Rattle.ot_walk.proofs.Rest.{rest_start}
 use Rattle.ot_repo.proofs.SoFar.{SoFar, Rests}
 use Rattle.ot_repo.proofs.Steps.{rests_known, rests_refused, rests_stopped, rests_new, rests_end, rests_done}
 use Rattle.ot_repo.proofs.Steps.{edges_popped, empty, no_edges, pushed, carried, start_so_far, popped_listed, left_so_far}

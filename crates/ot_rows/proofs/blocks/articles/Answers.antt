@@ -6,13 +6,13 @@ use Rattle.std.proofs.lemmas.Bool.{ltb-true}
 use Rattle.std.proofs.lemmas.Bool.Decides.{Decides-eqb}
 use Rattle.std.proofs.lemmas.Str.{IsUtf8-from_ascii}
 use Rattle.ot_theory.specs.Values.{IsPath}
-use Rattle.ot_blocks.specs.Order.{is_in}
 use Rattle.ot_blocks.proofs.FullNames.{ascii_from_all}
-use Rattle.ot_blocks.proofs.Members.{apart_from_test}
+use Rattle.ot_walk.specs.Walk.{is_in}
+use Rattle.ot_walk.proofs.Members.{apart_from_test}
 use Rattle.ot_rows.proofs.blocks.articles.Goals as goal
 
 quoted : (inner : List ℕ) → ltb 0 (length inner) ≡ true → list_all (λ b. ltb b 128) inner ≡ true
-    → is_in inner 34 ≡ false → IsPath (34 ∷ (inner ++ 34 ∷ []))
+    → is_in eqb inner 34 ≡ false → IsPath (34 ∷ (inner ++ 34 ∷ []))
 quoted inner some ascii plain = record {
   inner = inner;
   some = ltb-true 0 (length inner) some;

@@ -4,11 +4,11 @@ use Rattle.std.proofs.Common.{◌≡◌, ℕ, zero, suc, Bool, List, [], ◌∷�
 use Rattle.std.proofs.Common.{Ok, Err, false, inl, inr, refl, sym, ap, subst, ◌∙◌}
 use Rattle.std.proofs.lemmas.Bool.{cases_Bool}
 use Rattle.ot_logic.specs.Lists.{IsMember, IsPart, AreDistinct}
-use Rattle.ot_repo.specs.Walk.{Edge, Walk, Walked, Stops, TooDeep, ◌>>=◌, followed}
-use Rattle.ot_repo.specs.Walk.{is_in, arrive, walk_edges, walk_key, walk_from}
-use Rattle.ot_repo.specs.Walks.{HasEdge, Reaches, First, Further, Leads, Here, Along, LeadInto}
-use Rattle.ot_repo.specs.Walks.{IsReached, HasStop, NoEdges, NoTarget, Cycle, GivesWalk, GivesStop}
-use Rattle.ot_blocks.proofs.Members.{member_from_test, apart_from_test, member_end, cut_push}
+use Rattle.ot_walk.specs.Walk.{Edge, Walk, Walked, Stops, TooDeep, ◌>>=◌, followed}
+use Rattle.ot_walk.specs.Walk.{is_in, arrive, walk_edges, walk_key, walk_from}
+use Rattle.ot_walk.specs.Walks.{HasEdge, Reaches, First, Further, Leads, Here, Along, LeadInto}
+use Rattle.ot_walk.specs.Walks.{IsReached, HasStop, NoEdges, NoTarget, Cycle, GivesWalk, GivesStop}
+use Rattle.ot_walk.proofs.Members.{member_from_test, apart_from_test, member_end, cut_push}
 use Rattle.ot_logic.proofs.Members.{AreDistinct-push, IsMember-left, IsMember-push}
 
 -- ---- answers
@@ -114,8 +114,8 @@ module _ {K E : Type 0} (same : K → K → Bool) (tells : (x y : K) → Decides
   source_back path e k (AtKey j r h all) t i = Cycle j k e r h t (all k i)
 
   abbrev Visits : (List K → K → Walk K E) → List K → Type 0
-  Visits visit path = (done : List K) (k : K) → IsSound done → is_in same edges done k ≡ false
-      → is_in same edges path k ≡ false → Reaches edges start k → AllLead path k
+  Visits visit path = (done : List K) (k : K) → IsSound done → is_in same done k ≡ false
+      → is_in same path k ≡ false → Reaches edges start k → AllLead path k
       → Gives (AddsLast path done k) (HasStop edges start) (visit done k)
 
   has_last : (k : K) (new : List K) → (front : List K) × (new ≡ front ++ k ∷ []) → IsMember k new
@@ -136,9 +136,9 @@ module _ {K E : Type 0} (same : K → K → Bool) (tells : (x y : K) → Decides
       → (r : Result K E) → e.target ≡ r
       → Gives (AddsEdge path done e) (HasStop edges start) (followed r (arrive same edges visit path e.back done))
   edge_at visit path visits e src done s (Err fault) t = NoTarget e fault (source_reached path e src) t
-  edge_at visit path visits e src done s (Ok k) t = elim (cases_Bool (is_in same edges done k)) [
+  edge_at visit path visits e src done s (Ok k) t = elim (cases_Bool (is_in same done k)) [
     | inl known ↦ rw known (unchanged path done s, (k, t, member_from_test same tells done k known))
-    | inr fresh ↦ elim (cases_Bool (is_in same edges path k)) [
+    | inr fresh ↦ elim (cases_Bool (is_in same path k)) [
       | inl back ↦ rw (fresh, back) (source_back path e k src t (member_from_test same tells path k back))
       | inr new ↦ rw (fresh, new)
           (gives_more (AddsLast path done k) (AddsEdge path done e) (HasStop edges start) (visit done k)
@@ -168,8 +168,8 @@ module _ {K E : Type 0} (same : K → K → Bool) (tells : (x y : K) → Decides
       (λ new a. (then path done mid new h.0 a.0, lead_more es e mid new a.0.keeps h.1 a.1))
       (edges_give visit path visits es mid (λ f m. src f (inr m)) h.0.sound))
 
-  with_last : (path done more : List K) (k : K) (es : List (Edge K E)) → is_in same edges done k ≡ false
-      → is_in same edges path k ≡ false → Reaches edges start k → edges k ≡ Ok es
+  with_last : (path done more : List K) (k : K) (es : List (Edge K E)) → is_in same done k ≡ false
+      → is_in same path k ≡ false → Reaches edges start k → edges k ≡ Ok es
       → AddsEdges (k ∷ path) done es more → Adds path done (more ++ k ∷ [])
   with_last path done more k es fresh new reached are a = record {
     sound = one_more more k es a.0.sound (λ m. apart_from_test same tells done k fresh (a.0.apart k (inl refl) m))
@@ -182,7 +182,7 @@ module _ {K E : Type 0} (same : K → K → Bool) (tells : (x y : K) → Decides
   }
 
   key_at : (n : ℕ) (path : List K) (done : List K) (k : K) → Visits (walk_key same edges n (k ∷ path)) (k ∷ path)
-      → IsSound done → is_in same edges done k ≡ false → is_in same edges path k ≡ false → Reaches edges start k
+      → IsSound done → is_in same done k ≡ false → is_in same path k ≡ false → Reaches edges start k
       → AllLead path k
       → (r : Result (List (Edge K E)) E) → edges k ≡ r
       → Gives (AddsLast path done k) (HasStop edges start)

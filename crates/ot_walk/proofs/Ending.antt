@@ -4,11 +4,11 @@ use Rattle.std.proofs.Common.{◌≡◌, ◌≢◌, ◌≤◌, ◌+◌, ℕ, zer
 use Rattle.std.proofs.Common.{Result, Ok, Err, length, false, inl, inr, refl, subst, arith}
 use Rattle.std.proofs.lemmas.Bool.{cases_Bool}
 use Rattle.ot_logic.specs.Lists.{IsMember, IsPart, AreDistinct}
-use Rattle.ot_repo.specs.Walk.{Edge, Walk, Walked, Stops, TooDeep, ◌>>=◌}
-use Rattle.ot_repo.specs.Walk.{followed, is_in, arrive, walk_edges, walk_key}
-use Rattle.ot_repo.specs.Walks.{HasEdge, EndsAlways}
+use Rattle.ot_walk.specs.Walk.{Edge, Walk, Walked, Stops, TooDeep, ◌>>=◌}
+use Rattle.ot_walk.specs.Walk.{followed, is_in, arrive, walk_edges, walk_key}
+use Rattle.ot_walk.specs.Walks.{HasEdge, EndsAlways}
 use Rattle.ot_logic.proofs.Members.{distinct-length}
-use Rattle.ot_blocks.proofs.Members.{apart_from_test}
+use Rattle.ot_walk.proofs.Members.{apart_from_test}
 
 module _ {K E : Type 0} where
   bind_ends : (w : Walk K E) (f : List K → Walk K E) → w ≢ TooDeep → ((ks : List K) → f ks ≢ TooDeep)
@@ -21,7 +21,7 @@ module _ {K E : Type 0} (same : K → K → Bool) (tells : (x y : K) → Decides
     (edges : K → Result (List (Edge K E)) E) (all : List K) where
   -- the walk doesn't run out at keys that the path may lead to
   abbrev VisitEnds : (List K → K → Walk K E) → List K → Type 0
-  VisitEnds visit path = (done : List K) (k : K) → is_in same edges path k ≡ false → IsMember k all
+  VisitEnds visit path = (done : List K) (k : K) → is_in same path k ≡ false → IsMember k all
       → visit done k ≢ TooDeep
 
   abbrev Inside : List (Edge K E) → Type 0
@@ -31,9 +31,9 @@ module _ {K E : Type 0} (same : K → K → Bool) (tells : (x y : K) → Decides
       → (back : E) (done : List K) (r : Result K E) → ((k : K) → r ≡ Ok k → IsMember k all)
       → followed r (arrive same edges visit path back done) ≢ TooDeep
   edge_ends visit path ends back done (Err fault) inside = λ e. cc
-  edge_ends visit path ends back done (Ok k) inside = elim (cases_Bool (is_in same edges done k)) [
+  edge_ends visit path ends back done (Ok k) inside = elim (cases_Bool (is_in same done k)) [
     | inl known ↦ rw known (λ e. cc)
-    | inr fresh ↦ elim (cases_Bool (is_in same edges path k)) [
+    | inr fresh ↦ elim (cases_Bool (is_in same path k)) [
       | inl back ↦ rw (fresh, back) (λ e. cc)
       | inr new ↦ rw (fresh, new) (ends done k new (inside k refl))
     ]

@@ -1,7 +1,7 @@
 -- Laws of the walk, in other words.
 use Rattle.std.specs.Prelude.{◌≡◌, ◌≢◌, ◌≤◌, ℕ, List, [], ◌∷◌, ◌++◌, length, Bool, Result, Ok, Err, ◌⊎◌}
 use Rattle.ot_logic.specs.Lists.{IsMember, AreDistinct}
-use Rattle.ot_repo.specs.Walk.{Edge, Walked, Stops, TooDeep, walk_from}
+use Rattle.ot_walk.specs.Walk.{Edge, Walked, Stops, TooDeep, walk_from}
 
 module _ {K E : Type 0} (edges : K → Result (List (Edge K E)) E) where
   -- an edge of this key
@@ -67,6 +67,11 @@ module _ {K E : Type 0} (same : K → K → Bool) (edges : K → Result (List (E
   GivesTurns = (n : ℕ) (before after : List (Edge K E)) (e : Edge K E) (k : K) (order front back : List K)
       → walk_from same edges n (before ++ e ∷ after) ≡ Walked order → e.target ≡ Ok k → order ≡ front ++ k ∷ back
       → (j : K) → IsMember j front → Reaches edges (before ++ e ∷ []) j
+
+  -- a law: of a walk from one edge, its target is the last key
+  abbrev pub GivesLast : Type 0
+  GivesLast = (n : ℕ) (e : Edge K E) (k : K) (order : List K) → walk_from same edges n (e ∷ []) ≡ Walked order
+      → e.target ≡ Ok k → (front : List K) × (order ≡ front ++ k ∷ [])
 
   -- a law: where it stops, there is a cause
   abbrev pub GivesStop : Type 0

@@ -26,15 +26,15 @@ module _ {K E : Type 0} where
   followed (Ok x) f = f x
   followed (Err e) f = Stops e
 
-module _ {K E : Type 0} (same : K → K → Bool) (edges : K → Result (List (Edge K E)) E) where
-  -- whether a key is one of these
-  abbrev pub is_in : List K → K → Bool
-  is_in ks k = list_any (λ x. same x k) ks
+-- whether a key is one of these
+abbrev pub is_in : {K : Type 0} → (K → K → Bool) → List K → K → Bool
+is_in same ks k = list_any (λ x. same x k) ks
 
+module _ {K E : Type 0} (same : K → K → Bool) (edges : K → Result (List (Edge K E)) E) where
   -- where an edge leads, after the keys that are done; `visit` walks a key that is new
   abbrev pub arrive : (List K → K → Walk K E) → List K → E → List K → K → Walk K E
   arrive visit path back done k =
-      if is_in done k then Walked done else (if is_in path k then Stops back else visit done k)
+      if is_in same done k then Walked done else (if is_in same path k then Stops back else visit done k)
 
   -- edges in their order
   abbrev pub walk_edges : (List K → K → Walk K E) → List K → List (Edge K E) → List K → Walk K E

@@ -4,11 +4,11 @@ use Rattle.std.proofs.Common.{◌≡◌, ℕ, zero, suc, Bool, List, [], ◌∷�
 use Rattle.std.proofs.Common.{inl, inr, refl, sym, ap, subst, ◌∙◌, append_assoc, append-nil}
 use Rattle.std.proofs.lemmas.Bool.{cases_Bool}
 use Rattle.ot_logic.specs.Lists.{IsMember, AreDistinct}
-use Rattle.ot_repo.specs.Walk.{Edge, Walk, Walked, Stops, TooDeep, ◌>>=◌}
-use Rattle.ot_repo.specs.Walk.{followed, is_in, arrive, walk_edges, walk_key}
-use Rattle.ot_repo.specs.Walks.{GivesTurns}
-use Rattle.ot_blocks.proofs.Members.{member_end, split_member}
-use Rattle.ot_repo.proofs.Walking.{gives_walk}
+use Rattle.ot_walk.specs.Walk.{Edge, Walk, Walked, Stops, TooDeep, ◌>>=◌}
+use Rattle.ot_walk.specs.Walk.{followed, is_in, arrive, walk_edges, walk_key}
+use Rattle.ot_walk.specs.Walks.{GivesTurns, GivesLast}
+use Rattle.ot_walk.proofs.Members.{member_end, split_member}
+use Rattle.ot_walk.proofs.Walking.{gives_walk}
 use Rattle.ot_logic.proofs.Members.{IsMember-left}
 
 module _ {K E : Type 0} where
@@ -76,10 +76,10 @@ module _ {K E : Type 0} (same : K → K → Bool) (edges : K → Result (List (E
       → (back : E) (r : Result K E) (done new : List K)
       → followed r (arrive same edges visit path back done) ≡ Walked new → Grown done new
   edge_grows visit path grows back (Err fault) done new e = absurd cc
-  edge_grows visit path grows back (Ok k) done new e = elim (cases_Bool (is_in same edges done k)) [
+  edge_grows visit path grows back (Ok k) done new e = elim (cases_Bool (is_in same done k)) [
     | inl known ↦ let at : ◌≡◌ {A = Walk K E} (Walked done) (Walked new) = rw known at e in
         ([], sym (same_walk done new at) ∙ sym (append-nil done))
-    | inr fresh ↦ elim (cases_Bool (is_in same edges path k)) [
+    | inr fresh ↦ elim (cases_Bool (is_in same path k)) [
       | inl on_path ↦ let at : ◌≡◌ {A = Walk K E} (Stops back) (Walked new) = rw (fresh, on_path) at e in absurd cc
       | inr off ↦ let at : visit done k ≡ Walked new = rw (fresh, off) at e in grows done k new at
     ]
@@ -133,3 +133,22 @@ module _ {K E : Type 0} (same : K → K → Bool) (tells : (x y : K) → Decides
     where
       same_target : (x y : K) → ◌≡◌ {A = Result K E} (Ok x) (Ok y) → x ≡ y
       same_target x y e = cc
+
+module _ {K E : Type 0} (same : K → K → Bool) (edges : K → Result (List (Edge K E)) E) where
+  key_last : (n : ℕ) (path done : List K) (k : K) (new : List K) → walk_key same edges n path done k ≡ Walked new
+      → (front : List K) × (new ≡ front ++ k ∷ [])
+  key_last zero path done k new e = absurd cc
+  key_last (suc n) path done k new e =
+      let (more, first, last) =
+      bind_walked (followed (edges k)
+      (λ es. walk_edges same edges (walk_key same edges n (k ∷ path)) (k ∷ path) es done))
+      (λ more. Walked (more ++ k ∷ [])) new e in
+      (more, sym (same_walk (more ++ k ∷ []) new last))
+
+  pub gives_last : GivesLast same edges
+  gives_last n e k order walk target =
+      let visit = walk_key same edges n [] in
+      let one : (visit [] k >>= walk_edges same edges visit [] []) ≡ Walked order = rw target at walk in
+      let (mid, first, rest) = bind_walked (visit [] k) (walk_edges same edges visit [] []) order one in
+      let (front, last) = key_last n [] [] k mid first in
+      (front, sym (same_walk mid order rest) ∙ last)

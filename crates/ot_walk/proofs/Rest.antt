@@ -1,13 +1,13 @@
 -- The rest of a walk, from the keys that wait for each other.
 use Rattle.std.proofs.Common.{◌≡◌, ℕ, zero, suc, Bool, true, false, List, [], ◌∷◌, ◌++◌, map, Result, Ok, Err, refl}
-use Rattle.ot_repo.specs.Walk.{Edge, Walk, Walked, Stops, TooDeep, ◌>>=◌, is_in, walk_edges, walk_key, walk_from}
+use Rattle.ot_walk.specs.Walk.{Edge, Walk, Walked, Stops, TooDeep, ◌>>=◌, is_in, walk_edges, walk_key, walk_from}
 
 module _ {K E : Type 0} where
   -- the keys that are walked, each with the edges that are left where it was met
   abbrev pub path_of : List (K × List (Edge K E)) → List K
   path_of ws = map (λ w. w.0) ws
 
-  bind_walked : (w : Walk K E) → (w >>= λ ks. Walked ks) ≡ w
+  pub bind_walked : (w : Walk K E) → (w >>= λ ks. Walked ks) ≡ w
   bind_walked (Walked ks) = refl
   bind_walked (Stops fault) = refl
   bind_walked TooDeep = refl
@@ -37,17 +37,17 @@ module _ {K E : Type 0} (same : K → K → Bool) (edges : K → Result (List (E
     pub rest_nowhere : (fault : E) → e.target ≡ Err fault → rest_of n ws (e ∷ es) done ≡ Stops fault
     rest_nowhere fault t = rw t refl
 
-    pub rest_known : (k : K) → e.target ≡ Ok k → is_in same edges done k ≡ true → rest_of n ws (e ∷ es) done
+    pub rest_known : (k : K) → e.target ≡ Ok k → is_in same done k ≡ true → rest_of n ws (e ∷ es) done
         ≡ rest_of n ws es done
     rest_known k t known = rw (t, known) refl
 
-    pub rest_back : (k : K) → e.target ≡ Ok k → is_in same edges done k ≡ false → is_in same edges (path_of ws) k
+    pub rest_back : (k : K) → e.target ≡ Ok k → is_in same done k ≡ false → is_in same (path_of ws) k
         ≡ true → rest_of n ws (e ∷ es) done ≡ Stops e.back
     rest_back k t fresh back = rw (t, fresh, back) refl
 
   module _ (ws : List (K × List (Edge K E))) (e : Edge K E) (es : List (Edge K E)) (done : List K) (k : K)
-      (t : e.target ≡ Ok k) (fresh : is_in same edges done k ≡ false)
-      (new : is_in same edges (path_of ws) k ≡ false) where
+      (t : e.target ≡ Ok k) (fresh : is_in same done k ≡ false)
+      (new : is_in same (path_of ws) k ≡ false) where
     pub rest_zero : rest_of zero ws (e ∷ es) done ≡ TooDeep
     rest_zero = rw (t, fresh, new) refl
 

@@ -1,0 +1,2 @@
+//! A walk, depth first: its definition, and its laws.
+#![tactic(auto)]
