@@ -8,6 +8,7 @@ pub mod Ascending
 pub mod SequentLaw
 pub mod Decimals
 pub mod Putting
+pub mod TypePieces
 pub mod Separating
 pub mod SectionPieces
 pub mod Gathering

@@ -9,6 +9,7 @@ mod laws;
 mod page;
 mod printable;
 mod sections;
+mod types;
 
 pub use fault::PrintFault;
 pub use gather::{add_text, gathered};
@@ -17,3 +18,4 @@ pub use laws::one_text;
 pub use page::Page;
 pub use printable::{Printable, append};
 pub use sections::{put_indented, put_section, put_sorted_section};
+pub use types::{TypeForm, Types, is_arrow, is_text, put_name, put_type, put_typed};
