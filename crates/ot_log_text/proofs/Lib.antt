@@ -1,4 +1,3 @@
 -- The pieces of texts that the printers put on a page.
-pub mod Depths
 pub mod Pieces
 pub mod Separating

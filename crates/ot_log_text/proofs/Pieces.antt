@@ -1,8 +1,7 @@
 -- The texts of types and terms, piece by piece.
-use Rattle.std.specs.Prelude.{◌≡◌, ℕ, ◌+◌, ◌<◌, Bool, true, false, cond, List, []}
-use Rattle.std.specs.Prelude.{◌∷◌, ◌++◌, length, map, is_some, codes, None, Some}
+use Rattle.std.specs.Prelude.{◌≡◌, ℕ, ◌<◌, List, [], ◌∷◌, ◌++◌, length, map, is_some, codes, None, Some}
 use Rattle.std.specs.Global.{Vec}
-use Rattle.std.proofs.Common.{refl, sym, ◌∙◌, ap, arith, append_assoc, append-nil, get_or}
+use Rattle.std.proofs.Common.{refl, sym, ◌∙◌, ap, arith}
 use Rattle.ot_logic.specs.Names.{Name, spelled}
 use Rattle.ot_logic.specs.Naming.{names}
 use Rattle.ot_logic.specs.Trees.{Ty, TyOp, NoTys, MoreTys, Tm, App}
@@ -10,18 +9,10 @@ use Rattle.ot_logic.specs.Hol.{as_fun_ty, fun_ty, as_equation, equation}
 use Rattle.ot_laws.proofs.Tests.{tells_names}
 use Rattle.ot_laws.proofs.Typing.{as_fun_ty-some, as_fun_ty-fun}
 use Rattle.ot_laws.proofs.Equations.{as_equation-some, as_equation-equation}
-use Rattle.ot_log_nodes.specs.Items.{Item, type_at, types_at}
+use Rattle.ot_logic.specs.PlainTrees.{tys_of}
+use Rattle.ot_log_nodes.specs.Items.{Item, name_at, type_at, types_at}
 use Rattle.ot_text.specs.Texts.{name_text, is_function, is_equation, ty_text, spaced_text, tm_text}
-use Rattle.ot_text.specs.Pages.{Printed, IsPut}
-use Rattle.ot_text.proofs.Putting.{Puts, puts-more, same-text}
-
-cond-true : (e : Bool) (x y : List ℕ) → e ≡ true → x ≡ cond e x y
-cond-true true x y p = refl
-cond-true false x y p = cc
-
-cond-false : (e : Bool) (x y : List ℕ) → e ≡ false → y ≡ cond e x y
-cond-false true x y p = cc
-cond-false false x y p = refl
+use Rattle.ot_text.proofs.TypePieces.{cond-true, cond-false, arrow-pieces}
 
 -- ---- names
 pub spelled-name : (n : Name) (cs : List (Vec ℕ)) → map (λ c. c.items) cs ≡ n → 0 < length cs
@@ -30,15 +21,6 @@ spelled-name n [] p h = absurd (omega (arith, h))
 spelled-name n (c ∷ cs) p h = ap spelled (sym p) ∙ ap name_text p
 
 -- ---- types
-arrow-pieces : (x y : List ℕ) → codes "(" ++ x ++ codes " -> " ++ y ++ codes ")"
-    ≡ codes "(" ++ x ++ codes " ->" ++ (codes " " ++ y ++ []) ++ codes ")"
-arrow-pieces x y =
-    ap (λ z. z ++ codes ")") (
-    append_assoc (codes "(" ++ x) (codes " -> ") y
-    ∙ ap (λ z. codes "(" ++ x ++ (codes " -> " ++ z)) (sym (append-nil y))
-    ∙ sym (append_assoc (codes "(" ++ x) (codes " ->") (codes " " ++ y ++ []))
-    )
-
 pub function-pieces : (t a b : Ty Name) → as_fun_ty names t ≡ Some (a, b)
     → codes "(" ++ ty_text a ++ codes " -> " ++ ty_text b ++ codes ")" ≡ ty_text t
 function-pieces t a b p =
@@ -56,13 +38,15 @@ operator-pieces ts t n (i ∷ is) p h some =
     cond-false (is_function names (TyOp n (types_at ts (i ∷ is)))) _ _ (ap (is_function names) (sym p) ∙ ap is_some h)
     ∙ ap ty_text (sym p)
 
-pub spaced-more : (ts : List Item) (is : List ℕ) (k i : ℕ) (p0 p q : Printed) → k < length is → i ≡ get_or is k i
-    → Puts (λ js. spaced_text (types_at ts js)) is k p0 p → IsPut (codes " " ++ ty_text (type_at ts i)) p q
-    → Puts (λ js. spaced_text (types_at ts js)) is (k + 1) p0 q
-spaced-more ts is k i p0 p q h e before put =
-    puts-more (λ js. spaced_text (types_at ts js)) (λ j. codes " " ++ ty_text (type_at ts j)) (λ x xs. refl) is k i p0
-    p q h before
-    (same-text (ap (λ j. codes " " ++ ty_text (type_at ts j)) e) put)
+-- ---- the node of a type, its parts no longer by number
+types-row : (ts : List Item) (is : List ℕ) → types_at ts is ≡ tys_of (map (type_at ts) is)
+types-row ts [] = refl
+types-row ts (i ∷ is) = ap (MoreTys (type_at ts i)) (types-row ts is)
+
+pub operator-form : (ts : List Item) (t : Ty Name) (i : ℕ) (n : Name) (is js : List ℕ)
+    → t ≡ TyOp (name_at ts i) (types_at ts is) → n ≡ name_at ts i → js ≡ is → t ≡ TyOp n (tys_of (map (type_at ts) js))
+operator-form ts t i n is js p q e = p ∙ (λ k. TyOp (sym q k) (types-row ts is k))
+    ∙ ap (λ ks. TyOp n (tys_of (map (type_at ts) ks))) (sym e)
 
 -- ---- terms
 pub equation-pieces : (t a b : Tm Name) (ty : Ty Name) → as_equation names t ≡ Some (ty, a, b)

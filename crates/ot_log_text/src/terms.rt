@@ -5,10 +5,9 @@ ghost use Rattle.ot_text.specs.Texts.{name_text, ty_text, tm_text};
 ghost use Rattle.ot_text.specs.Pages.{IsPut, printed};
 
 use crate::table::InNodes;
-use crate::types::{put_name, put_type};
 use ot_log_nodes::{NameId, Nodes, TermId, TermNode, TypeId};
 use ot_log_rules::as_equation;
-use ot_text::{Page, Printable};
+use ot_text::{Page, Printable, put_type};
 use std::alloc::Global;
 
 impl Printable<InNodes<'_>> for TermId {
@@ -56,7 +55,7 @@ pub(crate) fn put_term(page: &mut Page, nodes: &Nodes, id: TermId)
         }
         TermNode::Abs(ty, body) => {
             page.put(b"(\\");
-            put_type(page, nodes, ty);
+            put_type(page, &InNodes { nodes }, &ty);
             page.put(b". ");
             put_term(page, nodes, body);
             page.put(b")");
@@ -71,7 +70,5 @@ pub(crate) fn put_typed(page: &mut Page, nodes: &Nodes, name: NameId, ty: TypeId
     ensures { IsPut (name_text (name_at nodes.now name) ++ codes ":" ++ ty_text (type_at nodes.now
         ty)) (printed page.old) (printed page.new) }
 {
-    put_name(page, nodes, name);
-    page.put(b":");
-    put_type(page, nodes, ty);
+    ot_text::put_typed(page, &InNodes { nodes }, nodes.name_of(name), &ty);
 }
