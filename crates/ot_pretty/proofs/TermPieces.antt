@@ -18,7 +18,7 @@ use Rattle.ot_forms.specs.Printing.{with_argument, written, written_argument, ap
 use Rattle.ot_text.specs.Texts.{is_equation}
 use Rattle.ot_print.specs.Equations.{equation_of}
 use Rattle.ot_pretty.specs.Spines.{text_at, spine_text, half_text, front_text, is_relation_constant}
-use Rattle.ot_print.proofs.Pieces.{cond-true, cond-false}
+use Rattle.ot_text.proofs.TypePieces.{cond-true, cond-false}
 
 regroup : (x t s b : List ℕ) → x ++ (t ++ s ++ b) ≡ (x ++ t) ++ s ++ b
 regroup x t s b = sym (append_assoc x (t ++ s) b) ∙ ap (λ z. z ++ b) (sym (append_assoc x t s))

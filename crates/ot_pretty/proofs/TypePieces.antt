@@ -13,7 +13,7 @@ use Rattle.ot_forms.specs.Forms.{type_text, types_text}
 use Rattle.ot_text.specs.Texts.{is_function}
 use Rattle.ot_text.specs.Pages.{Printed, IsPut}
 use Rattle.ot_text.proofs.Putting.{Puts, puts-more, same-text}
-use Rattle.ot_print.proofs.Pieces.{cond-true, cond-false, arrow-pieces}
+use Rattle.ot_text.proofs.TypePieces.{cond-true, cond-false, arrow-pieces}
 
 module _ (hidden : List (Symbol Name)) where
   pub function-pieces : (t a b : Ty Name) → t ≡ fun_ty names a b

@@ -1,62 +1,33 @@
 -- The texts of types and terms, piece by piece.
-use Rattle.std.specs.Prelude.{◌≡◌, ℕ, ◌+◌, ◌<◌, true, false, cond, List, [], ◌∷◌, ◌++◌, length, is_some, codes, Bool}
-use Rattle.std.proofs.Common.{refl, sym, ◌∙◌, ap, arith, append_assoc, append-nil, get_or}
+use Rattle.std.specs.Prelude.{◌≡◌, ℕ, false, List, [], ◌∷◌, ◌++◌, map, is_some, codes, slice_get, Some}
+use Rattle.std.proofs.Common.{refl, sym, ◌∙◌, ap}
+use Rattle.std.proofs.lemmas.Option.{get_or_from_slice_get}
 use Rattle.ot_logic.specs.Names.{Name}
 use Rattle.ot_logic.specs.Naming.{names}
-use Rattle.ot_logic.specs.Trees.{Ty, TyOp, NoTys, MoreTys, App, Variable, Named, NApp}
-use Rattle.ot_logic.specs.Hol.{fun_ty, equation}
+use Rattle.ot_logic.specs.Trees.{Ty, TyOp, MoreTys, App, Variable, Named, NApp}
+use Rattle.ot_logic.specs.Hol.{equation}
 use Rattle.ot_logic.specs.NamedTerms.{nameless_in}
 use Rattle.ot_laws.proofs.Tests.{tells_names}
-use Rattle.ot_laws.proofs.Typing.{as_fun_ty-fun}
 use Rattle.ot_laws.proofs.Equations.{as_equation-equation}
-use Rattle.ot_kernel.specs.State.{State, type_at, types_at}
-use Rattle.ot_text.specs.Texts.{name_text, is_function, is_equation, ty_text, spaced_text, tm_text}
+use Rattle.ot_logic.specs.PlainTrees.{tys_of}
+use Rattle.ot_kernel.specs.State.{State, name_at, type_at, types_at}
+use Rattle.ot_text.specs.Texts.{is_equation, tm_text}
 use Rattle.ot_print.specs.Equations.{equation_of}
-use Rattle.ot_text.specs.Pages.{Printed, IsPut}
-use Rattle.ot_text.proofs.Putting.{Puts, puts-more, same-text}
+use Rattle.ot_text.proofs.TypePieces.{cond-true, cond-false}
 
-pub cond-true : {A : Type 0} (e : Bool) (x y : A) → e ≡ true → x ≡ cond e x y
-cond-true true x y p = refl
-cond-true false x y p = cc
+-- ---- the node of a type, its parts no longer by number
+types-row : (s : State) (is : List ℕ) → types_at s is ≡ tys_of (map (type_at s) is)
+types-row s [] = refl
+types-row s (i ∷ is) = ap (MoreTys (type_at s i)) (types-row s is)
 
-pub cond-false : {A : Type 0} (e : Bool) (x y : A) → e ≡ false → y ≡ cond e x y
-cond-false true x y p = cc
-cond-false false x y p = refl
+name-of : (s : State) (i : ℕ) (n : Name) → slice_get s.names i ≡ Some n → name_at s i ≡ n
+name-of s i n p = get_or_from_slice_get s.names i n [] p
 
--- ---- types
-pub arrow-pieces : (x y : List ℕ) → codes "(" ++ x ++ codes " -> " ++ y ++ codes ")"
-    ≡ codes "(" ++ x ++ codes " ->" ++ (codes " " ++ y ++ []) ++ codes ")"
-arrow-pieces x y =
-    ap (λ z. z ++ codes ")") (
-    append_assoc (codes "(" ++ x) (codes " -> ") y
-    ∙ ap (λ z. codes "(" ++ x ++ (codes " -> " ++ z)) (sym (append-nil y))
-    ∙ sym (append_assoc (codes "(" ++ x) (codes " ->") (codes " " ++ y ++ []))
-    )
-
-pub function-pieces : (t a b : Ty Name) → t ≡ fun_ty names a b
-    → codes "(" ++ ty_text a ++ codes " -> " ++ ty_text b ++ codes ")" ≡ ty_text t
-function-pieces t a b p =
-    arrow-pieces (ty_text a) (ty_text b)
-    ∙ cond-true (is_function names (fun_ty names a b)) _
-    (codes "(" ++ name_text names.arrow ++ spaced_text (MoreTys a (MoreTys b NoTys)) ++ codes ")")
-    (ap is_some (as_fun_ty-fun names tells_names a b))
-    ∙ ap ty_text (sym p)
-
-pub operator-pieces : (s : State) (t : Ty Name) (n : Name) (is : List ℕ) → t ≡ TyOp n (types_at s is)
-    → is_function names t ≡ false → 0 < length is
-    → codes "(" ++ name_text n ++ spaced_text (types_at s is) ++ codes ")" ≡ ty_text t
-operator-pieces s t n [] p h some = absurd (omega arith)
-operator-pieces s t n (i ∷ is) p h some =
-    cond-false (is_function names (TyOp n (types_at s (i ∷ is)))) _ _ (ap (is_function names) (sym p) ∙ h)
-    ∙ ap ty_text (sym p)
-
-pub spaced-more : (s : State) (is : List ℕ) (k i : ℕ) (p0 p q : Printed) → k < length is → i ≡ get_or is k i
-    → Puts (λ js. spaced_text (types_at s js)) is k p0 p → IsPut (codes " " ++ ty_text (type_at s i)) p q
-    → Puts (λ js. spaced_text (types_at s js)) is (k + 1) p0 q
-spaced-more s is k i p0 p q h e before put =
-    puts-more (λ js. spaced_text (types_at s js)) (λ j. codes " " ++ ty_text (type_at s j)) (λ x xs. refl) is k i p0 p
-    q h before
-    (same-text (ap (λ j. codes " " ++ ty_text (type_at s j)) e) put)
+pub operator-form : (s : State) (t : Ty Name) (i : ℕ) (n : Name) (is js : List ℕ)
+    → t ≡ TyOp (name_at s i) (types_at s is) → slice_get s.names i ≡ Some n → js ≡ is
+    → t ≡ TyOp n (tys_of (map (type_at s) js))
+operator-form s t i n is js p q e = p ∙ (λ k. TyOp (name-of s i n q k) (types-row s is k))
+    ∙ ap (λ ks. TyOp n (tys_of (map (type_at s) ks))) (sym e)
 
 -- ---- terms
 pub equation-pieces : (e : List (Variable Name)) (t : Named Name) (ty : Ty Name) (a b : Named Name)

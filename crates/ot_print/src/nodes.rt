@@ -21,7 +21,7 @@ pub(crate) fn put_name(page: &mut Page, kernel: &Kernel, name: NameId)
     requires { name < length kernel.now.names }
     ensures { IsPut (name_text (name_at kernel.now name)) (printed page.old) (printed page.new) }
 {
-    page.put_name(kernel.names().get(name));
+    ot_text::put_name(page, kernel.names().get(name));
 }
 
 /// The argument type and the result type of a function type of the kernel, which have lower numbers; none exactly

@@ -8,13 +8,12 @@ ghost use Rattle.ot_view.specs.Nodes.{IsKey};
 ghost use Rattle.ot_view.specs.Binders.{binders_at, AreKeys};
 ghost use Rattle.ot_text.specs.Pages.{IsPut, printed, Appended};
 
-use crate::nodes::{equation_sides, put_name};
+use crate::nodes::equation_sides;
 use crate::table::InKernel;
-use crate::types::put_type;
 use ot_kernel::Kernel;
 use ot_logic::NameId;
 use ot_term::{TermId, TermNode, VarKey};
-use ot_text::{Page, PrintFault, Printable, append};
+use ot_text::{Page, PrintFault, Printable, append, put_type};
 use ot_type::TypeId;
 use ot_view::{Binders, place, term_node};
 use std::alloc::Global;
@@ -88,7 +87,7 @@ fn put_term(page: &mut Page, kernel: &Kernel, binders: &Binders<'_>, id: TermId)
         }
         TermNode::Abs(v, body) => {
             page.put(b"(\\");
-            put_type(page, kernel, v.ty);
+            put_type(page, &InKernel { kernel }, &v.ty);
             page.put(b". ");
             let inner = Binders::Inside(v, &*binders);
             put_term(page, kernel, &inner, *body);
@@ -123,7 +122,5 @@ pub(crate) fn put_typed(page: &mut Page, kernel: &Kernel, name: NameId, ty: Type
     ensures { IsPut (name_text (name_at kernel.now name) ++ codes ":" ++ ty_text (type_at kernel.now ty))
         (printed page.old) (printed page.new) }
 {
-    put_name(page, kernel, name);
-    page.put(b":");
-    put_type(page, kernel, ty);
+    ot_text::put_typed(page, &InKernel { kernel }, kernel.names().get(name), &ty);
 }

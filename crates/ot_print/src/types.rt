@@ -1,14 +1,12 @@
 //! The texts of types.
 ghost use Rattle.std.specs.Prelude.{◌≡◌, ◌<◌, length, OnOk, OnErr, Err};
-ghost use Rattle.std.specs.List.{All};
-ghost use Rattle.ot_kernel.specs.State.{type_at, types_at};
-ghost use Rattle.ot_text.specs.Texts.{ty_text, spaced_text};
-ghost use Rattle.ot_text.specs.Pages.{IsPut, printed, Appended};
+ghost use Rattle.ot_kernel.specs.State.{type_at};
+ghost use Rattle.ot_text.specs.Texts.{ty_text};
+ghost use Rattle.ot_text.specs.Pages.{Appended};
 
-use crate::nodes::{function_parts, put_name};
 use crate::table::InKernel;
 use ot_kernel::Kernel;
-use ot_text::{Page, PrintFault, Printable, append};
+use ot_text::{Page, PrintFault, Printable, TypeForm, Types, append, put_type};
 use ot_type::{TypeId, TypeNode};
 use ot_view::type_node;
 use std::alloc::Global;
@@ -35,51 +33,22 @@ impl Printable<InKernel<'_>> for TypeId {
     ghost text = { λ t id. ty_text (type_at t.kernel.now id) };
 
     fn put(&self, page: &mut Page, _alloc: Global, table: &InKernel<'_>) {
-        put_type(page, table.kernel, *self);
+        put_type(page, table, self);
     }
 }
 
-/// A type. Nothing is read once the page takes no more, so a type costs no more than the limit.
-#[cycle(types_text)]
-pub(crate) fn put_type(page: &mut Page, kernel: &Kernel, id: TypeId)
-    requires { id < length kernel.now.types }
-    ensures { IsPut (ty_text (type_at kernel.now id)) (printed page.old) (printed page.new) }
-{
-    if page.is_stopped() {
-        return;
-    }
-    if let Some((from, to)) = function_parts(kernel, id) {
-        page.put(b"(");
-        put_type(page, kernel, from);
-        page.put(b" -> ");
-        put_type(page, kernel, to);
-        page.put(b")");
-        return;
-    }
-    match type_node(kernel, id) {
-        TypeNode::Var(name) => {
-            page.put(b"'");
-            put_name(page, kernel, *name);
-        }
-        TypeNode::Op(name, args) if args.is_empty() => put_name(page, kernel, *name),
-        TypeNode::Op(name, args) => {
-            page.put(b"(");
-            put_name(page, kernel, *name);
-            put_types(page, kernel, args.as_slice(), id);
-            page.put(b")");
-        }
-    }
-}
+impl Types for InKernel<'_> {
+    type Type = TypeId;
 
-/// Types that are below a bound, a space before each.
-#[cycle(types_text)]
-fn put_types(page: &mut Page, kernel: &Kernel, ids: &[TypeId], bound: TypeId)
-    requires bound { bound < length kernel.now.types }
-    requires below { All (λ i. i < bound) ids.now }
-    ensures { IsPut (spaced_text (types_at kernel.now ids.now)) (printed page.old) (printed page.new) }
-{
-    for id in ids {
-        page.put(b" ");
-        put_type(page, kernel, *id);
+    ghost has_type = { λ t id. id < length t.kernel.now.types };
+
+    ghost type_at = { λ t id. type_at t.kernel.now id };
+
+    fn type_form<'a>(&'a self, ty: &'a TypeId) -> TypeForm<'a, TypeId> {
+        let names = self.kernel.names();
+        match type_node(self.kernel, *ty) {
+            TypeNode::Var(name) => TypeForm::Variable(names.get(*name)),
+            TypeNode::Op(name, args) => TypeForm::Operator(names.get(*name), args.as_slice()),
+        }
     }
 }

@@ -2,7 +2,7 @@ use Rattle.std.proofs.Common.{◌∙◌, sym}
 use Rattle.ot_logic.specs.Names.{spelled}
 use Rattle.ot_forms.specs.Words.{is_bare, dotted}
 use Rattle.ot_text.proofs.Putting.{same-text}
-use Rattle.ot_print.proofs.Pieces.{cond-true, cond-false}
+use Rattle.ot_text.proofs.TypePieces.{cond-true, cond-false}
 use Rattle.ot_pretty.proofs.words.put_plain.Goals as goal
 
 pub returns-then-is_bare : goal.returns-then-is_bare
