@@ -1,3 +1,2 @@
 -- The pieces of texts that the printers put on a page.
 pub mod Pieces
-pub mod Separating

@@ -17,7 +17,7 @@ use crate::terms::put_typed;
 use crate::types::put_name;
 use ot_log_nodes::{NameId, Nodes, VariableNode};
 use ot_log_rules::{Accepted, Definition, Statement};
-use ot_text::{Page, Printable};
+use ot_text::{Page, Printable, put_separated};
 use std::alloc::Global;
 
 impl Printable<InNodes<'_>> for Accepted {
@@ -54,7 +54,7 @@ fn put_head(page: &mut Page, alloc: Global, nodes: &Nodes, definition: &Definiti
         }
         Definition::Constants { pairs, premise } => {
             page.put(b"consts");
-            put_pairs(page, nodes, pairs.as_slice());
+            put_pairs(page, alloc, nodes, pairs.as_slice());
             put_premise(page, alloc, nodes, premise);
         }
         Definition::TypeOperator {
@@ -67,7 +67,7 @@ fn put_head(page: &mut Page, alloc: Global, nodes: &Nodes, definition: &Definiti
             page.put(b"type ");
             put_name(page, nodes, *name);
             page.put(b" (");
-            put_names(page, nodes, vars.as_slice());
+            put_names(page, alloc, nodes, vars.as_slice());
             page.put(b") abs ");
             put_name(page, nodes, *abs);
             page.put(b" rep ");
@@ -93,24 +93,24 @@ fn put_theorems(page: &mut Page, alloc: Global, nodes: &Nodes, theorems: &[State
     ensures { IsPut (theorems_text (map (sequent_at nodes.now) theorems.now)) (printed page.old)
         (printed page.new) }
 {
-    let mut is_first = true;
-    for theorem in theorems {
-        page.separate(is_first, b" ; ");
-        put_statement(page, alloc, nodes, theorem);
-        is_first = false;
-    }
+    put_separated(page, alloc, &InNodes { nodes }, theorems, b" ; ");
 }
 
 /// Constants for variables, a comma between two pairs.
-fn put_pairs(page: &mut Page, nodes: &Nodes, pairs: &[(NameId, VariableNode)])
+fn put_pairs(page: &mut Page, alloc: Global, nodes: &Nodes, pairs: &[(NameId, VariableNode)])
     requires { HasPairs nodes.now pairs.now }
     ensures { IsPut (pairs_text (pairs_at nodes.now pairs.now)) (printed page.old) (printed page.new) }
 {
-    let mut is_first = true;
-    for pair in pairs {
-        page.separate(is_first, b",");
-        put_pair(page, nodes, pair.0, pair.1);
-        is_first = false;
+    put_separated(page, alloc, &InNodes { nodes }, pairs, b",");
+}
+
+impl Printable<InNodes<'_>> for (NameId, VariableNode) {
+    ghost is_inside = { λ t p. HasName t.nodes.now p.0 × HasVariable t.nodes.now p.1 };
+
+    ghost text = { λ t p. pair_text (name_at t.nodes.now p.0, variable_at t.nodes.now p.1) };
+
+    fn put(&self, page: &mut Page, _alloc: Global, table: &InNodes<'_>) {
+        put_pair(page, table.nodes, self.0, self.1);
     }
 }
 
@@ -128,14 +128,9 @@ fn put_pair(page: &mut Page, nodes: &Nodes, name: NameId, v: VariableNode)
 }
 
 /// Names, a space between two.
-fn put_names(page: &mut Page, nodes: &Nodes, names: &[NameId])
+fn put_names(page: &mut Page, alloc: Global, nodes: &Nodes, names: &[NameId])
     requires { All (HasName nodes.now) names.now }
     ensures { IsPut (names_text (names_at nodes.now names.now)) (printed page.old) (printed page.new) }
 {
-    let mut is_first = true;
-    for name in names {
-        page.separate(is_first, b" ");
-        put_name(page, nodes, *name);
-        is_first = false;
-    }
+    put_separated(page, alloc, &InNodes { nodes }, names, b" ");
 }

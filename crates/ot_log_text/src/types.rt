@@ -5,7 +5,8 @@ ghost use Rattle.ot_text.specs.Pages.{IsPut, printed};
 
 use crate::table::InNodes;
 use ot_log_nodes::{NameId, Nodes, TypeId, TypeNode};
-use ot_text::{Page, TypeForm, Types};
+use ot_text::{Page, Printable, TypeForm, Types};
+use std::alloc::Global;
 
 impl Types for InNodes<'_> {
     type Type = TypeId;
@@ -21,6 +22,16 @@ impl Types for InNodes<'_> {
                 TypeForm::Operator(self.nodes.name_of(*name), args.as_slice())
             }
         }
+    }
+}
+
+impl Printable<InNodes<'_>> for NameId {
+    ghost is_inside = { λ t n. HasName t.nodes.now n };
+
+    ghost text = { λ t n. name_text (name_at t.nodes.now n) };
+
+    fn put(&self, page: &mut Page, _alloc: Global, table: &InNodes<'_>) {
+        put_name(page, table.nodes, *self);
     }
 }
 

@@ -9,6 +9,7 @@ mod laws;
 mod page;
 mod printable;
 mod sections;
+mod separated;
 mod types;
 
 pub use fault::PrintFault;
@@ -18,4 +19,5 @@ pub use laws::one_text;
 pub use page::Page;
 pub use printable::{Printable, append};
 pub use sections::{put_indented, put_section, put_sorted_section};
+pub use separated::put_separated;
 pub use types::{TypeForm, Types, is_arrow, is_text, put_name, put_type, put_typed};

@@ -4,7 +4,7 @@ use Rattle.ot_log_rules.specs.Statements.{sequent_at}
 use Rattle.ot_log_rules.specs.Definitions.{definition_at, names_at}
 use Rattle.ot_text.specs.Sections.{head_text}
 use Rattle.ot_text.proofs.Putting.{then, same-text}
-use Rattle.ot_log_text.proofs.Separating.{type-pieces}
+use Rattle.ot_text.proofs.Separating.{type-pieces}
 use Rattle.ot_log_text.proofs.definitions.put_head.Goals as goal
 
 pub returns-in-TypeOperator : goal.returns-in-TypeOperator

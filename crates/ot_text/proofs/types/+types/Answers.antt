@@ -1,4 +1,4 @@
-use Rattle.std.proofs.Common.{rules, arith, sym, ◌∙◌, ◌*◌, ◌<◌, map, subst}
+use Rattle.std.proofs.Common.{rules, arith, sym, ◌∙◌, map, subst}
 use Rattle.std.proofs.lemmas.Bool.Decides.{nat_tests}
 use Rattle.std.proofs.lemmas.List.{length-map}
 use Rattle.ot_logic.specs.PlainTrees.{tys_of}

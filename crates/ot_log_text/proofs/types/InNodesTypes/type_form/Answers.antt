@@ -2,7 +2,6 @@ use Rattle.std.specs.List.{All}
 use Rattle.std.proofs.Common.{sym, subst}
 use Rattle.ot_log_nodes.specs.Items.{HasType}
 use Rattle.ot_log_nodes.specs.Table.{HasTypeParts}
-use Rattle.ot_text.specs.Types.{IsFormOf}
 use Rattle.ot_log_text.proofs.Pieces.{operator-form}
 use Rattle.ot_log_text.proofs.types.InNodesTypes.type_form.Goals as goal
 
