@@ -1,14 +1,13 @@
--- Texts with a separator between two, part by part.
-use Rattle.std.specs.Prelude.{◌≡◌, ℕ, ◌+◌, ◌<◌, ◌≤◌, Bool, true, false, List, [], ◌∷◌, ◌++◌, map, length, codes}
-use Rattle.std.proofs.Common.{refl, sym, ap, append_assoc, drop, get_or}
+-- Constants for variables with a comma between two, pair by pair.
+use Rattle.std.specs.Prelude.{◌≡◌, ℕ, ◌+◌, ◌<◌, ◌≤◌, Bool, true, false, List, [], ◌∷◌, ◌++◌, length, codes}
+use Rattle.std.proofs.Common.{refl, ap, drop, get_or}
 use Rattle.std.proofs.Math.ListN.{drop_of_length-le}
 use Rattle.ot_logic.specs.Names.{Name}
-use Rattle.ot_logic.specs.Trees.{Variable, Sequent, TyDef}
+use Rattle.ot_logic.specs.Trees.{Variable}
 use Rattle.ot_term.specs.declared.term.VarKey.{VarKey}
 use Rattle.ot_kernel.specs.State.{State, name_at, variable_at}
 use Rattle.ot_kernel.specs.Definitions.{pairs_at}
-use Rattle.ot_text.specs.Texts.{name_text, sequent_text}
-use Rattle.ot_text.specs.Sections.{pair_text, pairs_text, further_pairs, names_text, further_names, head_text}
+use Rattle.ot_text.specs.Sections.{pair_text, pairs_text, further_pairs}
 use Rattle.ot_text.specs.Separated.{separator}
 use Rattle.ot_logic.proofs.Elements.{drop-item}
 
@@ -26,28 +25,6 @@ pub pairs-none : (b : Bool) → pairs_from b [] ≡ []
 pairs-none true = refl
 pairs-none false = refl
 
--- the names from the first or from a further one on
-abbrev pub names_from : Bool → List Name → List ℕ
-names_from true ns = names_text ns
-names_from false ns = further_names ns
-
-pub names-first : (b : Bool) (n : Name) (ns : List Name) → names_from b (n ∷ ns) ≡ separator b (codes " ")
-    ++ name_text n ++ further_names ns
-names-first true n ns = refl
-names-first false n ns = refl
-
-pub names-none : (b : Bool) → names_from b [] ≡ []
-names-none true = refl
-names-none false = refl
-
--- ---- a type operator
-pub type-pieces : (n abs rep : Name) (vs : List Name) (q : Sequent Name)
-    → codes "type " ++ name_text n ++ codes " (" ++ names_text vs ++ codes ") abs " ++ name_text abs ++ codes " rep "
-    ++ name_text rep ++ (codes " from " ++ sequent_text q) ≡ head_text (TyDef n abs rep vs q)
-type-pieces n abs rep vs q =
-    sym (append_assoc (codes "type " ++ name_text n ++ codes " (" ++ names_text vs ++ codes ") abs " ++ name_text abs
-    ++ codes " rep " ++ name_text rep) (codes " from ") (sequent_text q))
-
 -- ---- the rest of a list
 
 pub pairs-rest : (s : State) (ns : List ℕ) (vs : List VarKey) (i n : ℕ) (v : VarKey) → i < length ns → i < length vs
@@ -62,10 +39,3 @@ pairs-rest s ns vs i n v h g p q =
 pub pairs-end : (s : State) (ns : List ℕ) (vs : List VarKey) (i : ℕ) → length ns ≤ i
     → pairs_at s (drop i ns) (drop i vs) ≡ []
 pairs-end s ns vs i h = ap (λ is. pairs_at s is (drop i vs)) (drop_of_length-le ns h)
-
-pub names-rest : (s : State) (ns : List ℕ) (i n : ℕ) → i < length ns → n ≡ get_or ns i n → map (name_at s) (drop i ns)
-    ≡ name_at s n ∷ map (name_at s) (drop (i + 1) ns)
-names-rest s ns i n h p = ap (map (name_at s)) (drop-item ns i n h p)
-
-pub names-end : (s : State) (ns : List ℕ) (i : ℕ) → length ns ≤ i → map (name_at s) (drop i ns) ≡ []
-names-end s ns i h = ap (map (name_at s)) (drop_of_length-le ns h)

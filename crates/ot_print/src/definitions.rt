@@ -17,7 +17,7 @@ use crate::terms::put_typed;
 use ot_kernel::{Definition, Kernel, ThmId};
 use ot_logic::NameId;
 use ot_term::VarKey;
-use ot_text::{Page, Printable};
+use ot_text::{Page, Printable, put_separated};
 use std::alloc::Global;
 
 impl Printable<InKernel<'_>> for Definition {
@@ -79,7 +79,7 @@ fn put_head(page: &mut Page, alloc: Global, kernel: &Kernel, definition: &Defini
             page.put(b"type ");
             put_name(page, kernel, *name);
             page.put(b" (");
-            put_names(page, kernel, vars.as_slice());
+            put_names(page, alloc, kernel, vars.as_slice());
             page.put(b") abs ");
             put_name(page, kernel, *abs);
             page.put(b" rep ");
@@ -143,14 +143,9 @@ fn put_pair(page: &mut Page, kernel: &Kernel, name: NameId, v: &VarKey)
 }
 
 /// Names, a space between two.
-fn put_names(page: &mut Page, kernel: &Kernel, names: &[NameId])
+fn put_names(page: &mut Page, alloc: Global, kernel: &Kernel, names: &[NameId])
     requires { All (λ i. i < length kernel.now.names) names.now }
     ensures { IsPut (names_text (map (name_at kernel.now) names.now)) (printed page.old) (printed page.new) }
 {
-    let mut is_first = true;
-    for name in names {
-        page.separate(is_first, b" ");
-        put_name(page, kernel, *name);
-        is_first = false;
-    }
+    put_separated(page, alloc, &InKernel { kernel }, names, b" ");
 }

@@ -10,11 +10,23 @@ ghost use Rattle.ot_text.specs.Texts.{name_text, is_function, is_equation};
 ghost use Rattle.ot_print.specs.Equations.{equation_of};
 ghost use Rattle.ot_text.specs.Pages.{IsPut, printed};
 
+use crate::table::InKernel;
 use ot_kernel::Kernel;
 use ot_logic::NameId;
 use ot_term::TermId;
-use ot_text::Page;
+use ot_text::{Page, Printable};
 use ot_type::TypeId;
+use std::alloc::Global;
+
+impl Printable<InKernel<'_>> for NameId {
+    ghost is_inside = { λ t n. n < length t.kernel.now.names };
+
+    ghost text = { λ t n. name_text (name_at t.kernel.now n) };
+
+    fn put(&self, page: &mut Page, _alloc: Global, table: &InKernel<'_>) {
+        put_name(page, table.kernel, *self);
+    }
+}
 
 /// The spelling of a name.
 pub(crate) fn put_name(page: &mut Page, kernel: &Kernel, name: NameId)

@@ -3,7 +3,7 @@ use Rattle.ot_kernel.specs.State.{name_at, theorem_at}
 use Rattle.ot_kernel.specs.Definitions.{definition_at}
 use Rattle.ot_text.specs.Sections.{head_text}
 use Rattle.ot_text.proofs.Putting.{then, same-text}
-use Rattle.ot_print.proofs.Separating.{type-pieces}
+use Rattle.ot_text.proofs.Separating.{type-pieces}
 use Rattle.ot_print.proofs.definitions.put_head.Goals as goal
 
 pub returns-in-TyOp : goal.returns-in-TyOp
