@@ -11,64 +11,11 @@ use Rattle.ot_logic.specs.Hol.{same_ty, same_tys, fun_ty, bool_ty}
 use Rattle.ot_laws.proofs.Tests.{tells_names, same_ty-is}
 use Rattle.ot_logic.specs.declared.tree.Ty as types
 use Rattle.ot_text.specs.Texts.{name_text, ty_text, spaced_text, tm_text, argument_text, is_function, is_equation}
-use Rattle.ot_text.specs.Pages.{Printed, IsPut}
-use Rattle.ot_text.proofs.Putting.{Puts, puts-more, same-text}
-use Rattle.ot_logic.specs.PlainTrees.{tys_of, type_of_tree}
+use Rattle.ot_text.proofs.TypePieces.{cond-true, cond-false, arrow-two}
+use Rattle.ot_logic.specs.PlainTrees.{tys_of}
 use Rattle.ot_parse.specs.Plain.{equality_test, front_text}
 
--- a name has a component, and so its spelling is its text
-pub name-spelled : {X : Type 0} (f : X → List ℕ) (n : Name) (cs : List X) → map f cs ≡ n → 0 < length cs
-    → spelled n ≡ name_text n
-name-spelled f [] [] p h = absurd (omega arith)
-name-spelled f [] (c ∷ cs) p h = cc
-name-spelled f (c ∷ n) cs p h = refl
-
 -- ---- types
--- two arguments make a function type where the name is `->`
-pub arrow-pair : (n : Name) (a b : Ty Name) → is_function names (TyOp n (MoreTys a (MoreTys b NoTys)))
-    ≡ same_name n (codes "->" ∷ [])
-arrow-pair n a b = go (same_name n (codes "->" ∷ [])) where
-  go : (e : Bool) → is_some {T = Ty Name × Ty Name} (cond e (Some (a, b)) None) ≡ e
-  go true = refl
-  go false = refl
-
-pub eq-false : (a b : ℕ) → (a ≡ b → ⊥) → nat_eq a b ≡ false
-eq-false a b h = grind (arith, nat_tests)
-
-cond-true : (e : Bool) (x y : List ℕ) → e ≡ true → x ≡ cond e x y
-cond-true true x y p = refl
-cond-true false x y p = cc
-
-cond-false : (e : Bool) (x y : List ℕ) → e ≡ false → y ≡ cond e x y
-cond-false true x y p = cc
-cond-false false x y p = refl
-
-arrow-pieces : (x y : List ℕ) → codes "(" ++ x ++ codes " -> " ++ y ++ codes ")"
-    ≡ codes "(" ++ x ++ codes " ->" ++ (codes " " ++ y ++ []) ++ codes ")"
-arrow-pieces x y =
-    ap (λ z. z ++ codes ")") (
-    append_assoc (codes "(" ++ x) (codes " -> ") y
-    ∙ ap (λ z. codes "(" ++ x ++ (codes " -> " ++ z)) (sym (append-nil y))
-    ∙ sym (append_assoc (codes "(" ++ x) (codes " ->") (codes " " ++ y ++ []))
-    )
-
-pub function-pieces : (n : Name) (ts : List (Ty Name)) (a b : Ty Name) → ts ≡ a ∷ b ∷ []
-    → is_function names (TyOp n (tys_of ts)) ≡ true
-    → codes "(" ++ ty_text a ++ codes " -> " ++ ty_text b ++ codes ")" ≡ ty_text (TyOp n (tys_of ts))
-function-pieces n ts a b p h =
-    let k : is_function names (TyOp n (tys_of (a ∷ b ∷ []))) ≡ true =
-    ap (λ z. is_function names (TyOp n (tys_of z))) (sym p) ∙ h in
-    arrow-pieces (ty_text a) (ty_text b)
-    ∙ cond-true (is_function names (TyOp n (tys_of (a ∷ b ∷ [])))) _
-    (codes "(" ++ name_text n ++ spaced_text (tys_of (a ∷ b ∷ [])) ++ codes ")") k
-    ∙ ap (λ z. ty_text (TyOp n (tys_of z))) (sym p)
-
-pub operator-pieces : (n : Name) (ts : List (Ty Name)) → is_function names (TyOp n (tys_of ts)) ≡ false
-    → 0 < length ts
-    → codes "(" ++ name_text n ++ spaced_text (tys_of ts) ++ codes ")" ≡ ty_text (TyOp n (tys_of ts))
-operator-pieces n [] h some = absurd (omega arith)
-operator-pieces n (t ∷ ts) h some = cond-false (is_function names (TyOp n (tys_of (t ∷ ts)))) _ _ h
-
 -- a list of two
 pub two : {X : Type 0} (xs : List X) (x y : X) → length xs ≡ 2 → x ≡ get_or xs 0 x → y ≡ get_or xs 1 y
     → xs ≡ x ∷ y ∷ []
@@ -77,40 +24,13 @@ two (a ∷ []) x y h p q = absurd (omega arith)
 two (a ∷ b ∷ []) x y h p q = λ i. sym p i ∷ sym q i ∷ []
 two (a ∷ b ∷ c ∷ xs) x y h p q = absurd (omega arith)
 
--- `->` with two arguments, by their number
-pub arrow-two : {X : Type 0} (f : X → Ty Name) (n : Name) (xs : List X) → length xs ≡ 2
-    → same_name n (codes "->" ∷ []) ≡ is_function names (TyOp n (tys_of (map f xs)))
-arrow-two f n [] h = absurd (omega arith)
-arrow-two f n (a ∷ []) h = absurd (omega arith)
-arrow-two f n (a ∷ b ∷ []) h = sym (arrow-pair n (f a) (f b))
-arrow-two f n (a ∷ b ∷ c ∷ xs) h = absurd (omega arith)
-
-pub arrow-none : {X : Type 0} (f : X → Ty Name) (n : Name) (xs : List X) → (length xs ≡ 2 → ⊥)
-    → false ≡ is_function names (TyOp n (tys_of (map f xs)))
-arrow-none f n [] h = refl
-arrow-none f n (a ∷ []) h = refl
-arrow-none f n (a ∷ b ∷ []) h = absurd (h refl)
-arrow-none f n (a ∷ b ∷ c ∷ xs) h = refl
-
 -- the function type of these two
 pub arrow-is : {X : Type 0} (f : X → Ty Name) (n : Name) (xs : List X) (x y : X)
     → is_function names (TyOp n (tys_of (map f xs))) ≡ true → length xs ≡ 2 → x ≡ get_or xs 0 x → y ≡ get_or xs 1 y
     → TyOp n (tys_of (map f xs)) ≡ fun_ty names (f x) (f y)
 arrow-is f n xs x y k h p q =
-    let is_arrow = (same_name-Decides n names.arrow).0 (arrow-two f n xs h ∙ k) in
+    let is_arrow = (same_name-Decides n names.arrow).0 (arrow-two n (map f xs) (length-map xs f ∙ h) ∙ k) in
     λ i. TyOp (is_arrow i) (tys_of (map f (two xs x y h p q i)))
-
-pub not-empty : {X Y : Type 0} (f : X → Y) (xs : List X) → 0 < length xs → 0 < length (map f xs)
-not-empty f xs h = let n = length-map xs f in omega (arith, n, h)
-
-pub spaced-more : (ts : List types.Ty) (k : ℕ) (t : types.Ty) (p0 p q : Printed) → k < length ts → t ≡ get_or ts k t
-    → Puts (λ us. spaced_text (tys_of (map type_of_tree us))) ts k p0 p
-    → IsPut (codes " " ++ ty_text (type_of_tree t)) p q
-    → Puts (λ us. spaced_text (tys_of (map type_of_tree us))) ts (k + 1) p0 q
-spaced-more ts k t p0 p q h e before put =
-    puts-more (λ us. spaced_text (tys_of (map type_of_tree us))) (λ u. codes " " ++ ty_text (type_of_tree u))
-    (λ x xs. refl) ts k t p0 p q h before
-    (same-text (ap (λ u. codes " " ++ ty_text (type_of_tree u)) e) put)
 
 -- ---- terms
 -- what stands before the argument, and the argument

@@ -1,18 +1,20 @@
 //! The printed text of a sequent that was read.
-ghost use Rattle.std.specs.Prelude.{◌≡◌, ◌<◌, ◌++◌, codes, map, length, OnOk, OnErr, Err};
+ghost use Rattle.std.specs.Prelude.{◌≡◌, ◌<◌, length, OnOk, OnErr, Err};
 ghost use Rattle.ot_logic.specs.Naming.{names};
 ghost use Rattle.ot_logic.specs.Names.{Name as NameValue};
-ghost use Rattle.ot_logic.specs.Trees.{TyOp, App, Tm as TermTree};
-ghost use Rattle.ot_text.specs.Texts.{name_text, ty_text, spaced_text, tm_text};
-ghost use Rattle.ot_text.specs.Texts.{argument_text, sequent_text, is_equation};
+ghost use Rattle.ot_logic.specs.Trees.{App, Tm as TermTree};
+ghost use Rattle.ot_text.specs.Texts.{tm_text, argument_text, sequent_text, is_equation};
 ghost use Rattle.ot_text.specs.Pages.{IsPut, printed, Appended};
-ghost use Rattle.ot_logic.specs.PlainTrees.{type_of_tree, tys_of, term_of_tree};
+ghost use Rattle.ot_logic.specs.PlainTrees.{type_of_tree, term_of_tree};
 ghost use Rattle.ot_parse.specs.Plain.{sequent_of, equality_test, front_text};
 
 use crate::readable::Readable;
-use crate::trees::{function_parts, is_arrow, is_bool, is_text, same_type};
-use ot_logic::{Name, Tm, Ty};
-use ot_text::{Page, PrintFault, Printable, append, put_hypotheses};
+use crate::trees::{function_parts, is_bool, same_type};
+use ot_logic::{Tm, Ty};
+use ot_text::{
+    Page, PrintFault, Printable, TypeForm, Types, append, is_text, put_hypotheses, put_type,
+    put_typed,
+};
 use std::alloc::Global;
 
 /// The table under which trees are printed: they need none.
@@ -54,6 +56,22 @@ impl Printable<NoTable> for Tm {
     }
 }
 
+impl Types for NoTable {
+    type Type = Ty;
+
+    ghost has_type = { λ _ _. Unit {0} };
+
+    ghost type_at = { λ _ ty. type_of_tree ty };
+
+    #[tactic(auto, using(ot_logic::proofs::PlainTrees::type_steps))]
+    fn type_form<'a>(&'a self, ty: &'a Ty) -> TypeForm<'a, Ty> {
+        match ty {
+            Ty::Var(name) => TypeForm::Variable(name),
+            Ty::Op(name, args) => TypeForm::Operator(name, args.as_slice()),
+        }
+    }
+}
+
 /// A sequent. The texts of the hypotheses together cost no more than the limit.
 fn put_sequent(page: &mut Page, alloc: Global, sequent: &Readable)
     ensures { IsPut (sequent_text (sequent_of sequent.now)) (printed page.old) (printed page.new) }
@@ -69,10 +87,10 @@ fn put_term(page: &mut Page, term: &Tm)
     ensures { IsPut (tm_text (term_of_tree term.now)) (printed page.old) (printed page.new) }
 {
     match term {
-        Tm::Free(name, ty) => put_typed(page, name, ty),
+        Tm::Free(name, ty) => put_typed(page, &NoTable, name, ty),
         Tm::Con(name, ty) => {
             page.put(b"@");
-            put_typed(page, name, ty);
+            put_typed(page, &NoTable, name, ty);
         }
         Tm::Bound(place) => {
             page.put(b"#");
@@ -86,7 +104,7 @@ fn put_term(page: &mut Page, term: &Tm)
         }
         Tm::Abs(ty, body) => {
             page.put(b"(\\");
-            put_type(page, ty);
+            put_type(page, &NoTable, ty);
             page.put(b". ");
             put_term(page, body);
             page.put(b")");
@@ -166,82 +184,4 @@ fn is_equality_type(ty: &Ty) -> bool
         return false;
     }
     is_bool(value)
-}
-
-/// A name and a type.
-fn put_typed(page: &mut Page, name: &Name, ty: &Ty)
-    ensures { IsPut (name_text name.now ++ codes ":" ++ ty_text (type_of_tree ty.now)) (printed page.old)
-        (printed page.new) }
-{
-    put_name(page, name);
-    page.put(b":");
-    put_type(page, ty);
-}
-
-/// The spelling of a name.
-fn put_name(page: &mut Page, name: &Name)
-    ensures { IsPut (name_text name.now) (printed page.old) (printed page.new) }
-{
-    // A name has a component.
-    let _components = name.components();
-    page.put_name(name);
-}
-
-/// A type.
-#[cycle(types)]
-fn put_type(page: &mut Page, ty: &Ty)
-    ensures { IsPut (ty_text (type_of_tree ty.now)) (printed page.old) (printed page.new) }
-{
-    match ty {
-        Ty::Var(name) => {
-            page.put(b"'");
-            put_name(page, name);
-        }
-        Ty::Op(name, args) => put_operator(page, name, args),
-    }
-}
-
-/// An operator with its arguments.
-#[cycle(types)]
-fn put_operator(page: &mut Page, name: &Name, args: &Vec<Ty>)
-    ensures { IsPut (ty_text (TyOp name.now (tys_of (map type_of_tree args.now.items)))) (printed page.old)
-        (printed page.new) }
-{
-    if args.is_empty() {
-        put_name(page, name);
-        return;
-    }
-    if is_arrow(name, args) {
-        page.put(b"(");
-        put_type(page, &args[0]);
-        page.put(b" -> ");
-        put_type(page, &args[1]);
-        page.put(b")");
-        return;
-    }
-    put_arguments(page, name, args);
-}
-
-/// An operator and its arguments in parentheses.
-#[cycle(types)]
-fn put_arguments(page: &mut Page, name: &Name, args: &Vec<Ty>)
-    ensures { IsPut
-        (codes "(" ++ name_text name.now ++ spaced_text (tys_of (map type_of_tree args.now.items)) ++ codes ")")
-        (printed page.old) (printed page.new) }
-{
-    page.put(b"(");
-    put_name(page, name);
-    put_types(page, args);
-    page.put(b")");
-}
-
-/// Types, a space before each.
-#[cycle(types)]
-fn put_types(page: &mut Page, types: &Vec<Ty>)
-    ensures { IsPut (spaced_text (tys_of (map type_of_tree types.now.items))) (printed page.old) (printed page.new) }
-{
-    for ty in types {
-        page.put(b" ");
-        put_type(page, ty);
-    }
 }

@@ -1,24 +1,13 @@
 //! Plain types and terms: their parts, and whether two are equal.
-ghost use Rattle.std.specs.Prelude.{◌≡◌, [], ◌∷◌, map, length, true, false, IfNone, IfSome};
+ghost use Rattle.std.specs.Prelude.{◌≡◌, map, length, true, false, IfNone, IfSome};
 ghost use Rattle.ot_text.specs.Texts.{is_function};
 ghost use Rattle.ot_logic.specs.Naming.{names};
 ghost use Rattle.ot_logic.specs.Trees.{TyOp};
 ghost use Rattle.ot_logic.specs.Hol.{same_ty, same_tys, same_tm, fun_ty, bool_ty};
-ghost use Rattle.ot_logic.specs.Names.{same_name};
 ghost use Rattle.ot_logic.specs.PlainTrees.{type_of_tree, tys_of, term_of_tree};
 
-use crate::words::is_same;
 use ot_logic::{Name, Tm, Ty};
-
-/// Whether a name has this one component.
-pub(crate) fn is_text(name: &Name, text: &[u8]) -> bool
-    ensures { result ≡ same_name name.now (text.now ∷ []) }
-{
-    match name.components() {
-        [only] => is_same(only.as_slice(), text),
-        _ => false,
-    }
-}
+use ot_text::is_text;
 
 /// Whether two types are equal.
 #[cycle(same)]
@@ -89,7 +78,7 @@ pub(crate) fn is_arrow(name: &Name, args: &Vec<Ty>) -> bool
     ensures function { result ≡ is_function names (TyOp name.now (tys_of (map type_of_tree args.now.items))) }
     ensures two { result ≡ true → length args.now.items ≡ 2 }
 {
-    args.len() == 2 && is_text(name, b"->")
+    ot_text::is_arrow(name, args.len())
 }
 
 /// Whether two terms are equal.
