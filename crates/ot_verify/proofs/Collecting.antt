@@ -109,15 +109,17 @@ module _ {A X : Type 0} {st : LogState Name} (ask : (A → RecordForm names) →
   -- one that was not read
   pub collects-stop : {Y Z : Type 0} {now : LogState Name} {is : X → A → Type 0} {xs : List X} {j k : ℕ}
       {fault : VerifyFault} {old mid new : Reader} {l m n : Option (List ℕ)}
-      {at : Z → A → Type 0} {these : Y → List A → Type 0}
-      → now ≡ st → j ≡ suc k → CollectsFrom st ask is xs j old mid l m
+      {at : Z → A → Type 0} {these : Y → List A → Type 0} (q : Result Y VerifyFault)
+      → IsErrAnd q (λ f. f ≡ fault) → now ≡ st → j ≡ suc k → CollectsFrom st ask is xs j old mid l m
       → AnsweredFrom now ask at (Err fault) mid new m n
-      → AnsweredFrom st (ask_list ask) these (Err fault) old new l n
-  collects-stop {k = k} {fault = fault} same e c a = record {
+      → AnsweredFrom st (ask_list ask) these q old new l n
+  collects-stop (Ok y) handed same e c a = absurd handed
+  collects-stop {k = k} {fault = fault} (Err f) handed same e c a = record {
     answer = tt;
     stop = tokens-then c.tokens a.stop
-        (λ o r s g h. stops-after st ask fault c.items k o r (subst (λ i. GoesOnAfter st ask c.items i o r) e g)
-        (subst (λ t. StopsWith t ask fault r) same h));
+        (λ o r s g h. subst (λ d. StopsWith st (ask_list ask) d o) (sym handed)
+        (stops-after st ask fault c.items k o r (subst (λ i. GoesOnAfter st ask c.items i o r) e g)
+        (subst (λ t. StopsWith t ask fault r) same h)));
   }
 
   -- one that was read, and not kept for want of memory
@@ -135,9 +137,15 @@ module _ {A X : Type 0} {st : LogState Name} (ask : (A → RecordForm names) →
 -- the count was not read
 module _ {A : Type 0} {st : LogState Name} (ask : (A → RecordForm names) → RecordForm names) where
   pub collects-none : {Y : Type 0} {e : VerifyFault} {old new : Reader} {l m : Option (List ℕ)}
-      {these : Y → List A → Type 0} → AnsweredFrom {X = ℕ} st AskCount IsValue (Err e) old new l m
-      → AnsweredFrom st (ask_list ask) these (Err e) old new l m
-  collects-none {e = e} a = record { answer = tt; stop = tokens-map a.stop (λ o r. stops-count st ask e o) }
+      {these : Y → List A → Type 0} (q : Result Y VerifyFault) → IsErrAnd q (λ f. f ≡ e)
+      → AnsweredFrom {X = ℕ} st AskCount IsValue (Err e) old new l m
+      → AnsweredFrom st (ask_list ask) these q old new l m
+  collects-none (Ok y) handed a = absurd handed
+  collects-none {e = e} (Err f) handed a = record {
+    answer = tt;
+    stop = tokens-map a.stop
+        (λ o r h. subst (λ d. StopsWith st (ask_list ask) d o) (sym handed) (stops-count st ask e o h));
+  }
 
 -- ---- one thing after another, asked for together
 

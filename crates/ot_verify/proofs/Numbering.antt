@@ -1,6 +1,6 @@
 -- A name that was read, by its number.
-use Rattle.std.specs.Prelude.{Ok, Err, Option, Some}
-use Rattle.std.proofs.Common.{ℕ, List, ap, ◌∙◌}
+use Rattle.std.specs.Prelude.{◌≡◌, Result, Ok, Err, IsErrAnd, Option, Some}
+use Rattle.std.proofs.Common.{ℕ, List, ap, sym, subst, ◌∙◌}
 use Rattle.ot_logic.specs.Names.{Name}
 use Rattle.ot_logic.specs.RanOut.{ran_out}
 use Rattle.ot_log_format.specs.State.{LogState}
@@ -20,10 +20,18 @@ module _ {st : LogState Name} (view : LogView) {old new : Reader} {l m : Option 
       let (x, same, reads) = a.answer in
       record { answer = (x, e ∙ ap (λ m. Some (NameItem m)) same, reads); stop = tt }
 
-  pub numbered-stop : {e : VerifyFault} → AnsweredFrom {X = Name} st AskName IsValue (Err e) old new l m
-      → AnsweredFrom {X = ℕ} st AskName (IsNamed view) (Err e) old new l m
-  numbered-stop a = record { answer = tt; stop = a.stop }
+  -- the answer is the fault that was handed on
+  pub numbered-stop : {e : VerifyFault} (q : Result ℕ VerifyFault) → IsErrAnd q (λ f. f ≡ e)
+      → AnsweredFrom {X = Name} st AskName IsValue (Err e) old new l m
+      → AnsweredFrom st AskName (IsNamed view) q old new l m
+  numbered-stop (Ok id) handed a = absurd handed
+  numbered-stop (Err f) handed a =
+      subst (λ d. AnsweredFrom {X = ℕ} st AskName (IsNamed view) (Err d) old new l m) (sym handed)
+      (record { answer = tt; stop = a.stop })
 
-  pub numbered-memory : {n : Name} → AnsweredFrom st AskName IsValue (Ok n) old new l m
-      → AnsweredFrom {X = ℕ} st AskName (IsNamed view) (Err (verify.Memory ran_out)) old new l m
-  numbered-memory a = record { answer = tt; stop = tokens-map a.answer.2 (λ o r h. tt) }
+  pub numbered-memory : {n : Name} (q : Result ℕ VerifyFault) → IsErrAnd q (λ f. f ≡ verify.Memory ran_out)
+      → AnsweredFrom st AskName IsValue (Ok n) old new l m → AnsweredFrom st AskName (IsNamed view) q old new l m
+  numbered-memory (Ok id) handed a = absurd handed
+  numbered-memory (Err f) handed a =
+      subst (λ d. AnsweredFrom {X = ℕ} st AskName (IsNamed view) (Err d) old new l m) (sym handed)
+      (record { answer = tt; stop = tokens-map a.answer.2 (λ o r h. tt) })

@@ -217,16 +217,11 @@ pub(crate) fn list<T: Operand, S: Source>(
     ensures unchanged { T.adds_names ≡ false → log.new ≡ log.old }
     ensures reads { ReadsOn S.folder S.faults S.misses S.at result reader.old reader.new source.old source.new }
 {
-    let count = match reader.count(alloc, source) {
-        Ok(count) => count,
-        Err(fault) => return Err(fault),
-    };
+    let count = reader.count(alloc, source)?;
     let mut read = Vec::new(alloc);
     'each: for done in 0..count {
-        match T::read(alloc, log, reader, source) {
-            Ok(item) => read.push(item)?,
-            Err(fault) => return Err(fault),
-        }
+        let item = T::read(alloc, log, reader, source)?;
+        read.push(item)?;
     }
     Ok(read)
 }

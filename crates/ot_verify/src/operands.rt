@@ -24,13 +24,8 @@ pub(crate) fn name_number<S: Source>(
     ensures meets { MeetsNames log.old log.new }
     ensures reads { ReadsOn S.folder S.faults S.misses S.at result reader.old reader.new source.old source.new }
 {
-    match reader.name(alloc, source) {
-        Ok(name) => match log.intern(name) {
-            Ok(number) => Ok(number),
-            Err(memory) => Err(VerifyFault::Memory(memory)),
-        },
-        Err(fault) => Err(fault),
-    }
+    let name = reader.name(alloc, source)?;
+    Ok(log.intern(name)?)
 }
 
 /// The number of an earlier type.
