@@ -13,6 +13,7 @@ use Rattle.std.proofs.lemmas.List.Elements.{All-append, All-cons}
 use Rattle.ot_logic.specs.Answers.{◌>>=◌}
 use Rattle.ot_logic.specs.Names.{Name}
 use Rattle.ot_logic.specs.Trees.{Tm, Sequent, Symbol}
+use Rattle.ot_logic.specs.Limits.{summary_limit}
 use Rattle.ot_logic.specs.Lists.{IsMember}
 use Rattle.ot_logic.specs.declared.memory.Memory.{Memory as NoMemory}
 use Rattle.ot_io.specs.Causes.{CountRose}
@@ -35,29 +36,27 @@ use Rattle.ot_forms.specs.Refusals.{IsTermRefused}
 use Rattle.ot_forms.specs.Words.{IsNotation}
 use Rattle.ot_forms.specs.declared.fault.TextFault.{TextFault}
 use Rattle.ot_find.specs.Matches.{Found, matches, matches_in, MatchesAreThose, MatchesOfOneMore}
-use Rattle.ot_find.specs.Texts.{HasFound}
+use Rattle.ot_find.specs.Texts.{HasFound, find_text}
 use Rattle.ot_find.specs.declared.search.Search.{Search}
 use Rattle.ot_read.specs.Lines.{RefusedLine, at_line, term_read}
 use Rattle.ot_print.specs.Laws.{TextsNameOne}
-use Rattle.ot_program.specs.Texts.{column_line, required_line}
-use Rattle.ot_program.specs.World.{World, Every, HasReadWorld, HasReadFolder}
-use Rattle.ot_program.specs.Tasks.{FindPattern, ShowReadable, is_standard}
-use Rattle.ot_program.specs.Runs.{Noted, noted, limits, theory_run, theory_shown, noted_at, notation}
-use Rattle.ot_program.specs.Runs.{exports_of}
-use Rattle.ot_program.specs.Command.{run_lists, IsProved, LastInput, LeavesOther}
-use Rattle.ot_program.specs.FindPattern.{FindStop, InRequired, InRun, InPattern, PackageRun, Searched, search}
-use Rattle.ot_program.specs.FindPattern.{package_runs, required_at, find_at, sources, found, required_status}
-use Rattle.ot_program.specs.FindPattern.{pattern_path, IsSearchFile, OfWalk, OfPackage, IsPatternStop}
+use Rattle.ot_program.specs.Texts.{column_line, required_line, large_line}
+use Rattle.ot_program.specs.World.{World, Every, HasReadWorld, HasReadFolder, is_standard}
+use Rattle.ot_program.specs.Tasks.{FindPattern, ShowReadable}
+use Rattle.ot_program.specs.Runs.{Noted, noted, limits, theory_run, theory_shown, noted_at, notation, exports_of}
+use Rattle.ot_program.specs.Runs.{stops_as}
+use Rattle.ot_program.specs.Command.{run_lists, IsProved, LastInput, LeavesOther, End, Finished, Stopped, Failed}
+use Rattle.ot_program.specs.FindPattern.{FindStop, InRequired, InRun, InPattern, PackageRun, Searched, package_runs}
+use Rattle.ot_program.specs.FindPattern.{required_at, find_at, sources, found, required_status, pattern_path}
+use Rattle.ot_program.specs.FindPattern.{IsSearchFile, OfWalk, OfPackage, IsPatternStop}
 use Rattle.ot_program.specs.Answer.{IsResult, FileFailed}
-use Rattle.ot_program.specs.Endings.{ran_from, noted_of, End, Finished, Stopped, Failed, HasTaskEnd, HasTheoryEnd}
-use Rattle.ot_program.specs.Endings.{noted_end}
-use Rattle.ot_program.specs.Verdicts.{IsSaid, IsStopVerdict, IsTaskVerdict, IsVerdictOn}
+use Rattle.ot_program.specs.Endings.{ran_from, noted_of, HasTaskEnd, HasTheoryEnd, noted_end}
+use Rattle.ot_program.specs.Verdicts.{IsSaid, IsPrinted, IsStopVerdict, IsTaskVerdict, IsVerdictOn}
 use Rattle.ot_program.specs.Searches.{AnswersIn, ending_of, HasEnded, AtStop, AtFailure, IfEnded, IsWalkVerdict}
 use Rattle.ot_program.specs.Searches.{HasEndedWalk, HasEndedInput, HasEndedPattern, HasEndedRun, HasEndedRuns}
 use Rattle.ot_program.specs.Searches.{HasEndedBehind, AtPattern, AtRuns, HasEndedSearch, IsPattern, IsRunFile}
 use Rattle.ot_program.specs.Searches.{HasMatches, IsSearched, AreSearched, HasSearchedBehind, HasSearched, searched_of}
-use Rattle.ot_program.specs.Searches.{FoundEndsAs, source_of, EndsWalk, EndsInput, EndsRun, EndsRuns, EndsBehind}
-use Rattle.ot_program.specs.Searches.{EndsSearch}
+use Rattle.ot_program.specs.Searches.{source_of, EndsWalk, EndsInput, EndsRun, EndsRuns, EndsBehind, EndsSearch}
 use Rattle.ot_program.specs.declared.finding.Ending.{Ending}
 use Rattle.ot_program.specs.declared.finding.Ending.TheVariants as endings
 use Rattle.ot_program.specs.declared.noted.NotedRun.{NotedRun}
@@ -482,6 +481,16 @@ some_theory : (path : List ℕ) (fulls : List (List ℕ)) → (is_theory path �
 some_theory path fulls (inl theory) some = theory
 some_theory path fulls (inr none) some = absurd (some none)
 
+-- a search by what each of its parts answers
+abbrev pub search : (pattern : List ℕ) → Result (List (List ℕ)) Refusal → Result Noted Stop
+    → (List (List ℕ) → Result (List PackageRun) Stop) → Result Searched FindStop
+search pattern fulls ran runs =
+    stops_as InRequired fulls >>= λ fs.
+    stops_as InRun ran >>= λ n.
+    stops_as InPattern (at_line 1 (term_read (notation n) pattern)) >>= λ p.
+    stops_as InRun (runs fs) >>= λ ps.
+    Ok (record { noted = n; pattern = p; packages = ps })
+
 module _ (packages pattern path : List ℕ) where
   -- ---- how the stated search goes on
 
@@ -735,7 +744,8 @@ module _ (packages pattern path : List ℕ) where
 
   found_end : (I : Type 0) (F : List ℕ → Type 0) (M : Type 0) (May : World → Type 0) (search : Search)
       (h : HasSearched packages pattern path search May) → TextsNameOne → (v : Verdict)
-      → FoundEndsAs path (found path h.made) v → IsTaskVerdict (FindPattern packages pattern path) I F M v May
+      → IsPrinted summary_limit (find_text (found path h.made)) (large_line path) v
+      → IsTaskVerdict (FindPattern packages pattern path) I F M v May
   found_end I F M May search h one v ends =
       verdict_at I F M May v (Finished h.made)
       (record { ends = ends; proved = h.proved; promised = λ fit. h.promised; one_text = one })
@@ -743,9 +753,10 @@ module _ (packages pattern path : List ℕ) where
 
   pub found_verdict : {E : Type 0} (I : Type 0) (F : List ℕ → Type 0) (M : Type 0) (May : World → Type 0)
       (search : Search) (r : Result Verdict E) → TextsNameOne
-      → ((fs : List Found) → HasMatches search fs → IfOk r (FoundEndsAs path fs))
+      → ((fs : List Found) → HasMatches search fs
+      → IfOk r (IsPrinted summary_limit (find_text fs) (large_line path)))
       → EndsSearch packages pattern path (Ok search) I F M May → IfOk r (λ v. IsTaskVerdict (FindPattern packages pattern path) I F M v May)
   found_verdict I F M May search r one ends h =
       let s = h.searched in
-      ok_more (FoundEndsAs path (found path s.made)) (λ v. IsTaskVerdict (FindPattern packages pattern path) I F M v May) r
+      ok_more (IsPrinted summary_limit (find_text (found path s.made)) (large_line path)) (λ v. IsTaskVerdict (FindPattern packages pattern path) I F M v May) r
       (found_end I F M May search s one) (ends (found path s.made) s.found)

@@ -28,14 +28,14 @@ use Rattle.ot_link.specs.Link.{link}
 use Rattle.ot_link.specs.Answers.{Comes, ran_of, IsOfArticle, HasFailed, HasCause as HasLinkCause}
 use Rattle.ot_link.specs.declared.fault.LinkFault.{LinkFault}
 use Rattle.ot_link.specs.declared.fault.LinkFault.TheVariants as faults
-use Rattle.ot_program.specs.World.{World, Every, HasReadWorld, HasReadFolder}
-use Rattle.ot_program.specs.Tasks.{RunInput, is_standard}
-use Rattle.ot_program.specs.Runs.{limits, start, outcome, theory_run, standard_run, article_run}
-use Rattle.ot_program.specs.Runs.{run_at, IsOwnStop, IsInputStop}
+use Rattle.ot_program.specs.World.{World, Every, HasReadWorld, HasReadFolder, is_standard}
+use Rattle.ot_program.specs.Tasks.{RunInput}
+use Rattle.ot_program.specs.Runs.{limits, start, outcome, theory_run, standard_run, article_run, run_at, IsOwnStop}
+use Rattle.ot_program.specs.Runs.{IsInputStop}
 use Rattle.ot_program.specs.Answer.{FileFailed}
-use Rattle.ot_program.specs.Endings.{End, Finished, Stopped, Failed, end_of, IsAnswer, HasTaskCause, HasTaskEnd}
-use Rattle.ot_program.specs.Endings.{HasOwnCause, HasTheoryCause, HasTheoryEnd}
-use Rattle.ot_program.specs.Verdicts.{IsLawfulEnd, IsLawfulEnds}
+use Rattle.ot_program.specs.Endings.{end_of, HasTaskCause, HasTaskEnd, HasOwnCause, HasTheoryCause, HasTheoryEnd}
+use Rattle.ot_program.specs.Command.{End, Finished, Stopped, Failed, IsAnswer}
+use Rattle.ot_program.specs.Verdicts.{IsLawfulEnds}
 use Rattle.ot_program.specs.declared.task.View.{View}
 use Rattle.ot_program.proofs.Options.{if_some}
 use Rattle.ot_program.proofs.TaskEnds.{every_some, task_ended, input_path, file_path}
@@ -297,6 +297,6 @@ lawful_ends s es run once =
     record { run = run; exports = once.exports.lawful; stated = once.exports.stated; apart = once.apart }
 
 pub lawful_end : {E : Type 0} (s : Session) (r : Result (Vec Export Global) E) → IsLawfulSession s
-    → IfOk r (λ es. AreLawfulOnce s es.items) → IfOk r (IsLawfulEnd s)
+    → IfOk r (λ es. AreLawfulOnce s es.items) → IfOk r (λ es. IsLawfulEnds s es.items)
 lawful_end s (Ok es) run once = lawful_ends s es.items run once
 lawful_end s (Err e) run once = tt

@@ -10,11 +10,12 @@ use Rattle.ot_io.proofs.Readings.{Files-map, Files-one, Files-missing}
 use Rattle.ot_print.specs.Laws.{TextsNameOne}
 use Rattle.ot_verify.specs.Reading.{log_check}
 use Rattle.ot_verify.specs.Verifying.{Proved, AreProved, Verifies}
-use Rattle.ot_program.specs.World.{World, HasReadWorld}
-use Rattle.ot_program.specs.Tasks.{CheckLog, is_standard}
-use Rattle.ot_program.specs.Command.{IsProved}
+use Rattle.ot_program.specs.World.{World, HasReadWorld, is_standard}
+use Rattle.ot_program.specs.Tasks.{CheckLog}
+use Rattle.ot_program.specs.Command.{IsProved, End, Finished, IsAnswer, HasCause}
 use Rattle.ot_program.specs.CheckLog.{LogStop, NoLog, log_lists, log_end, check_bytes, check_file, log_status}
-use Rattle.ot_program.specs.Endings.{End, Finished, log_end_of, IsAnswer, HasCause, HasTaskCause, HasTaskEnd}
+use Rattle.ot_program.specs.CheckLog.{log_end_of}
+use Rattle.ot_program.specs.Endings.{HasTaskCause, HasTaskEnd}
 use Rattle.ot_program.specs.Verdicts.{EndsAs, IsVerdictOf}
 use Rattle.ot_program.specs.declared.report.Verdict.{Verdict}
 use Rattle.ot_program.specs.declared.log.LogRefusal.{LogRefusal}

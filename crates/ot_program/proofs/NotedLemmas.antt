@@ -37,19 +37,18 @@ use Rattle.ot_text.specs.Pages.{Appended}
 use Rattle.ot_print.specs.Laws.{TextsNameOne}
 use Rattle.ot_pretty.specs.Summary.{ReadBack, hidden_in_run, readable_summary, hidden_at, summary_at}
 use Rattle.ot_program.specs.Texts.{large_line}
-use Rattle.ot_program.specs.World.{World, Every, HasReadWorld}
-use Rattle.ot_program.specs.Tasks.{RunInput, ShowReadable, is_standard}
-use Rattle.ot_program.specs.Runs.{Noted, limits, theory_run, theory_shown, shown_at, noted, noted_at, run_at}
-use Rattle.ot_program.specs.Runs.{opened_at, opened_noted}
-use Rattle.ot_program.specs.Runs.{notation, assumptions_of, definitions_of, exports_of, stop_status}
+use Rattle.ot_program.specs.World.{World, Every, HasReadWorld, is_standard}
+use Rattle.ot_program.specs.Tasks.{RunInput, ShowReadable, command}
+use Rattle.ot_program.specs.Runs.{Noted, limits, theory_run, theory_shown, shown_at, noted, noted_at, run_at, opened_at}
+use Rattle.ot_program.specs.Runs.{opened_noted, notation, assumptions_of, definitions_of, exports_of, stop_status}
 use Rattle.ot_program.specs.Runs.{IsInputStop}
-use Rattle.ot_program.specs.Command.{run_lists, IsProved, LeavesOther, LastInput}
+use Rattle.ot_program.specs.Command.{run_lists, IsProved, LeavesOther, LastInput, End, Finished, Stopped, Failed}
+use Rattle.ot_program.specs.Command.{IsAnswer, HasCause}
 use Rattle.ot_program.specs.ShowReadable.{readable, AreReadBack}
 use Rattle.ot_program.specs.Answer.{FileFailed, ClosesFiles}
-use Rattle.ot_program.specs.Endings.{End, Finished, Stopped, Failed, ran_from, noted_from, noted_end, end_at, noted_of}
-use Rattle.ot_program.specs.Endings.{noted_end_of, theory_noted, IsAnswer, HasCause, HasTaskCause, HasTaskEnd}
-use Rattle.ot_program.specs.Verdicts.{IsSaid, IsStopVerdict, IsVerdictOf, ReadableEndsAs}
-use Rattle.ot_program.specs.Reply.{command}
+use Rattle.ot_program.specs.Endings.{ran_from, noted_from, noted_end, end_at, noted_of, noted_end_of, theory_noted}
+use Rattle.ot_program.specs.Endings.{HasTaskCause, HasTaskEnd}
+use Rattle.ot_program.specs.Verdicts.{IsSaid, IsStopVerdict, IsVerdictOf, IsPrinted}
 use Rattle.ot_program.specs.declared.noted.NotedRun.{NotedRun}
 use Rattle.ot_program.specs.declared.report.Verdict.{Verdict}
 use Rattle.ot_program.specs.declared.status.Status.TheVariants.{Accepted, Refused}
@@ -288,7 +287,7 @@ stop_verdict packages path names (Ok v) o said = stop_verdict_on packages path n
 
 -- on a run that ended
 pub end_verdict : {E : Type 0} (packages path : List ℕ) (n : Noted) (a : Result Verdict E)
-    → IfOk a (ReadableEndsAs path n)
+    → IfOk a (IsPrinted summary_limit (readable n) (large_line path))
     → OnOk a (nat_le (length (readable n)) summary_limit ≡ true → AreReadBack n)
     → IsProved (run_lists n.ran) → TextsNameOne
     → IfOk a (IsVerdictOf (ShowReadable packages path) (Some (Finished n)))
@@ -333,7 +332,7 @@ module _ (names : List Name) (s : Session) (seen : State) (es : List Export) (th
   pub printed : (path : List ℕ) (max : ℕ) (old : List ℕ) (v : Verdict) → max ≡ summary_limit → old ≡ []
       → v.status ≡ Accepted
       → Appended (summary_at seen (hidden_at seen names ths) ths) max old v.text.items
-      → ReadableEndsAs path (noted_from names s es) v
+      → IsPrinted summary_limit (readable (noted_from names s es)) (large_line path) v
   printed path max old v limit empty status put =
       text_printed (readable (noted_from names s es)) (large_line path) max old v limit
       empty status (subst (λ (t : List ℕ). Appended t max old v.text.items) text_is put)
@@ -341,7 +340,8 @@ module _ (names : List Name) (s : Session) (seen : State) (es : List Export) (th
   -- and where its bytes are past the limit it is refused
   pub refused : {E : Type 0} (path : List ℕ) (max : ℕ) (a : Result Verdict E) → max ≡ summary_limit
       → max < length (summary_at seen (hidden_at seen names ths) ths)
-      → IfOk a (λ v. IsSaid v Refused (large_line path)) → IfOk a (ReadableEndsAs path (noted_from names s es))
+      → IfOk a (λ v. IsSaid v Refused (large_line path))
+      → IfOk a (IsPrinted summary_limit (readable (noted_from names s es)) (large_line path))
   refused path max a limit past said =
       text_too_large (readable (noted_from names s es)) (large_line path)
       max a limit (subst (λ (t : List ℕ). max < length t) text_is past) said

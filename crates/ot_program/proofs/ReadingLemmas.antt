@@ -6,6 +6,7 @@ use Rattle.std.specs.Prelude.{None, IfSome, IsSomeAnd, Result, Ok, Err, IfOk, If
 use Rattle.std.specs.Global.{Global}
 use Rattle.std.proofs.lemmas.Bool.{le-leb, lt-leb}
 use Rattle.std.specs.Option.{option_map, option_and_then}
+use Rattle.ot_logic.specs.Answers.{◌>>=◌}
 use Rattle.ot_logic.specs.Names.{Name}
 use Rattle.ot_logic.specs.Trees.{Tm, Sequent, Symbol}
 use Rattle.ot_logic.specs.Limits.{text_limit}
@@ -31,16 +32,15 @@ use Rattle.ot_read.specs.declared.lines.LineRefusal.{LineRefusal}
 use Rattle.ot_read.specs.declared.lines.LineRefusal.TheVariants as refusals
 use Rattle.ot_read.specs.Laws.{TermsReadByForms, LinesReadByForms, TextsReadByForms, AreRead, StandFor}
 use Rattle.ot_read.proofs.Alike.{term-alike, lines-alike}
-use Rattle.ot_program.specs.World.{World, Every, HasReadWorld}
-use Rattle.ot_program.specs.Tasks.{ShowReadable, ReadLines, is_standard}
-use Rattle.ot_program.specs.Runs.{Noted, noted_at, notation}
-use Rattle.ot_program.specs.Command.{LastInput, LastOf}
-use Rattle.ot_program.specs.ReadLines.{Readings, ReadStop, NoText, TextTooLarge, text_in, read_in, read_at}
-use Rattle.ot_program.specs.ReadLines.{read_behind, IsLineStop}
+use Rattle.ot_program.specs.World.{World, Every, HasReadWorld, is_standard}
+use Rattle.ot_program.specs.Tasks.{ShowReadable, ReadLines}
+use Rattle.ot_program.specs.Runs.{Noted, noted_at, notation, stops_as}
+use Rattle.ot_program.specs.Command.{LastInput, LastOf, End, Finished, Stopped, Failed, IsAnswer}
+use Rattle.ot_program.specs.ReadLines.{Readings, ReadStop, NoText, TextTooLarge, text_in, read_in, read_at, InInput}
+use Rattle.ot_program.specs.ReadLines.{IsLineStop}
 use Rattle.ot_program.specs.Answer.{IsResult}
-use Rattle.ot_program.specs.Endings.{End, Finished, Stopped, Failed, IsAnswer, IsTextCause, IsTextRefusal}
-use Rattle.ot_program.specs.Endings.{HasTaskCause, HasTaskEnd, IsLineCause, noted_from, noted_end, stop_end}
-use Rattle.ot_program.specs.Endings.{read_end_of}
+use Rattle.ot_program.specs.Endings.{IsTextCause, IsTextRefusal, HasTaskCause, HasTaskEnd, IsLineCause, noted_from}
+use Rattle.ot_program.specs.Endings.{noted_end, stop_end, read_end_of}
 use Rattle.ot_program.specs.Verdicts.{IsStopVerdict, IsVerdictOf}
 use Rattle.ot_program.specs.declared.report.Verdict.{Verdict}
 use Rattle.ot_program.specs.declared.reading.LinesRead.{LinesRead}
@@ -53,12 +53,16 @@ use Rattle.ot_program.proofs.Worlds.{IsPart, HasFolders, folder_of, world_then_f
 
 -- ---- the end
 
+-- the text behind an answer of the run
+abbrev behind_run : List ℕ → Folder → Result Noted Stop → Result Readings ReadStop
+behind_run text folder a = stops_as InInput a >>= λ n. read_in n text folder
+
 -- behind a run that ended
 behind : (packages path text : List ℕ) (world : World) (n : Noted) (o : Option (End Readings ReadStop))
     → noted_at packages path world ≡ Ok n → IfSome o (IsAnswer (read_in n text world.folder))
     → IfSome o (IsAnswer (read_at packages path text world))
 behind packages path text world n o ran read =
-    subst (λ (a : Result Noted Stop). IfSome o (IsAnswer (read_behind text world.folder a))) (sym ran) read
+    subst (λ (a : Result Noted Stop). IfSome o (IsAnswer (behind_run text world.folder a))) (sym ran) read
 
 text_cause : (packages path text : List ℕ) (May : World → Type 0) (n : Noted) (I : Type 0) (F : List ℕ → Type 0)
     (A M N : Type 0) (r : Result LinesRead ReadingRefusal)
@@ -100,7 +104,7 @@ pub stop_behind : (packages path text : List ℕ) (May : World → Type 0) (I : 
 stop_behind packages path text May I F M None ended = tt
 stop_behind packages path text May I F M (Some (Finished r)) ended = tt
 stop_behind packages path text May I F M (Some (Stopped s)) ended = record {
-  end = λ world may. ap (read_behind text world.folder) (ended.end world may);
+  end = λ world may. ap (behind_run text world.folder) (ended.end world may);
   cause = ended.cause;
 }
 stop_behind packages path text May I F M (Some (Failed path')) ended = record {

@@ -1,26 +1,36 @@
 -- How a verdict, and the way the program ends with it, stand to the stated reply.
 use Rattle.std.proofs.Common.{◌≡◌, ℕ, List, refl, ap, sym, subst, inl, inr, ◌⊎◌, ◌∙◌}
-use Rattle.std.specs.Prelude.{Bool, true, false, MatchBool, Option, Some, None, IfSome, ◌↔◌}
+use Rattle.std.specs.Prelude.{Bool, true, false, MatchBool, Option, Some, None, ◌↔◌}
 use Rattle.std.specs.Option.{option_map}
 use Rattle.std.specs.Io.KnownBytes.{Appends}
 use Rattle.ot_io.specs.Causes.{CountRose}
-use Rattle.ot_io.specs.Sinks.{AppendsFront, FlushesAll}
+use Rattle.ot_io.specs.Sinks.{AppendsFront}
 use Rattle.ot_args.specs.Grammar.{command_of}
 use Rattle.ot_program.specs.Texts.{usage_line, write_fault_line, memory_line}
-use Rattle.ot_program.specs.Tasks.{TaskValue, ReadLines, FindPattern, task, task_of, is_standard}
-use Rattle.ot_program.specs.Tasks.{RunInput, RunSample, MakeSample, CheckLog, ShowReadable}
-use Rattle.ot_program.specs.Command.{IsReadPath}
-use Rattle.ot_program.specs.Reply.{Reply, accepted, fails, reply_to, answer, command}
+use Rattle.ot_program.specs.Tasks.{TaskValue, ReadLines, FindPattern, task, task_of, RunInput, RunSample, MakeSample}
+use Rattle.ot_program.specs.Tasks.{CheckLog, ShowReadable, command}
+use Rattle.ot_program.specs.Reply.{Reply, accepted, fails, reply_to, answer}
 use Rattle.ot_program.specs.Answer.{MatchesReply, IsReport, IsStopLine, IsLargeLine, FileFailed, IsFailureLine}
-use Rattle.ot_program.specs.Answer.{WritesLine, Outputs, IsOutput, SaysWhy, IsErrorLine, Failures, IsAnswered}
-use Rattle.ot_program.specs.World.{World, Every}
-use Rattle.ot_program.specs.Verdicts.{IsReplyOf, IsTextOf, IsSilent, WritesText, Ends, error_line}
+use Rattle.ot_program.specs.Answer.{WritesLine, SomeText, Outputs, IsOutput, SaysWhy, IsErrorLine, Failures, IsAnswered}
+use Rattle.ot_program.specs.World.{World, Every, is_standard}
+use Rattle.ot_program.specs.Verdicts.{IsTextOf, Ends, said_line}
 use Rattle.ot_program.specs.declared.status.Status.{Status}
 use Rattle.ot_program.specs.declared.status.Status.TheVariants.{Accepted, Refused, Usage, NoFile}
 use Rattle.ot_program.specs.declared.status.Status.TheVariants.{ReadFault, WriteFault, Memory}
 use Rattle.ot_program.specs.Samples.{sample_path}
+use Rattle.ot_program.proofs.TaskEnds.{IsReadPath}
 
 -- ---- a verdict and the stated reply
+
+-- the reply that a status and a text make; an input that failed has none
+abbrev IsReplyOf : Status → List ℕ → Reply → Type 0
+IsReplyOf Accepted text reply = reply ≡ accepted text
+IsReplyOf Refused line reply = reply ≡ fails Refused line
+IsReplyOf NoFile line reply = reply ≡ fails NoFile line
+IsReplyOf ReadFault line reply = Unit {0}
+IsReplyOf Usage line reply = ⊥
+IsReplyOf WriteFault line reply = ⊥
+IsReplyOf Memory line reply = ⊥
 
 report_reply : (t : TaskValue) (May : World → Type 0) (text : List ℕ) → IsReport t May text
     → Every May (λ world. IsReplyOf Accepted text (reply_to (command t) ((command t).result world)))
@@ -62,147 +72,127 @@ replied words t May I F status text P read says then =
 
 -- ---- status, output and the line
 
--- the line on standard error, where it says why nothing is accepted
-abbrev IsLined : {E : Type 0} → (E → Option (List ℕ)) → (E → ℕ) → E → E → List ℕ → Status → Type 0
-IsLined written faults old new text status = IfSome (error_line text status) (WritesLine written faults old new)
+-- what was put out is the verdict's text, and what was said is its line, or that of a write fault
+module _ {O E : Type 0} (written : O → Option (List ℕ)) (flushed : O → Option ℕ) (out out' : O)
+    (said : E → Option (List ℕ)) (faults : E → ℕ) (err err' : E) where
+  abbrev pub IsPutOut : Status → List ℕ → Type 0
+  IsPutOut status text = Outputs status written flushed out out' (λ x. x ≡ text)
 
-same_matches : {E : Type 0} (written : E → Option (List ℕ)) (faults : E → ℕ) (err err' : E) (status : Status)
-    (text : List ℕ) (old new : Option (List ℕ)) → WritesText status old new text
-    → IsLined written faults err err' text status → (reply : Reply)
-    → IsReplyOf status text reply → MatchesReply status reply old new (WritesLine written faults err err')
-same_matches written faults err err' Accepted text old new writes line reply is = (
-  ap (λ r. r.status) is,
-  subst (λ (r : Reply). Appends old new r.output) (sym is) writes,
-)
-same_matches written faults err err' Refused text old new writes line reply is = (
-  ap (λ r. r.status) is,
-  subst (λ (r : Reply). WritesLine written faults err err' r.error) (sym is) line,
-)
-same_matches written faults err err' NoFile text old new writes line reply is = (
-  ap (λ r. r.status) is,
-  subst (λ (r : Reply). WritesLine written faults err err' r.error) (sym is) line,
-)
-same_matches written faults err err' ReadFault text old new writes line reply is = tt
-same_matches written faults err err' Usage text old new writes line reply is = absurd is
-same_matches written faults err err' WriteFault text old new writes line reply is = absurd is
-same_matches written faults err err' Memory text old new writes line reply is = absurd is
+  abbrev pub IsSaidSo : Status → List ℕ → Type 0
+  IsSaidSo status text = SaysWhy status said faults err err' (λ line. line ≡ said_line status text)
 
-front_matches : {E : Type 0} (written : E → Option (List ℕ)) (faults : E → ℕ) (err err' : E) (text : List ℕ)
-    (old new : Option (List ℕ)) → AppendsFront old new text → (reply : Reply) → reply ≡ accepted text
-    → MatchesReply WriteFault reply old new (WritesLine written faults err err')
-front_matches written faults err err' text old new front reply is = (
-  ap (λ r. r.status) is,
-  subst (λ (r : Reply). AppendsFront old new r.output) (sym is) front,
-)
+  abbrev AnswersTo : Status → Reply → Type 0
+  AnswersTo status reply =
+      MatchesReply status reply (written out) (written out') (WritesLine said faults err err')
 
-module _ {E : Type 0} (written : E → Option (List ℕ)) (faults : E → ℕ) (err err' : E) where
-  matches : (verdict status : Status) (text : List ℕ) (old new : Option (List ℕ)) → Ends verdict status
-      → WritesText status old new text → IsLined written faults err err' text status
-      → (reply : Reply) → IsReplyOf verdict text reply
-      → MatchesReply status reply old new (WritesLine written faults err err')
-  matches verdict status text old new (inl same) writes line reply is =
-      subst (λ (s : Status). MatchesReply s reply old new (WritesLine written faults err err')) (sym same)
-      (same_matches written faults err err' verdict text old new
-      (subst (λ (s : Status). WritesText s old new text) same writes)
-      (subst (IsLined written faults err err' text) same line) reply is)
-  matches verdict status text old new (inr failed) writes line reply is =
-      subst (λ (s : Status). MatchesReply s reply old new (WritesLine written faults err err')) (sym failed.1)
-      (front_matches written faults err err' text old new
-      (subst (λ (s : Status). WritesText s old new text) failed.1 writes)
-      reply (subst (λ (s : Status). IsReplyOf s text reply) failed.0 is))
+  line_said : (text : List ℕ) (status : Status) → SomeText (λ line. line ≡ text) (WritesLine said faults err err')
+      → (reply : Reply) → reply ≡ fails status text
+      → (reply.status ≡ status) × WritesLine said faults err err' reply.error
+  line_said text status line reply is = (
+    ap (λ r. r.status) is,
+    subst (WritesLine said faults err err') (line.is_one ∙ sym (ap (λ r. r.error) is)) line.is_put,
+  )
+
+  same_matches : (status : Status) (text : List ℕ) → IsPutOut status text → IsSaidSo status text → (reply : Reply)
+      → IsReplyOf status text reply → AnswersTo status reply
+  same_matches Accepted text put line reply is = (
+    ap (λ r. r.status) is,
+    subst (Appends (written out) (written out')) (put.is_one ∙ sym (ap (λ r. r.output) is)) put.is_put.0,
+  )
+  same_matches Refused text put line reply is = line_said text Refused line reply is
+  same_matches NoFile text put line reply is = line_said text NoFile line reply is
+  same_matches ReadFault text put line reply is = tt
+  same_matches Usage text put line reply is = absurd is
+  same_matches WriteFault text put line reply is = absurd is
+  same_matches Memory text put line reply is = absurd is
+
+  matches : (verdict status : Status) (text : List ℕ) → Ends verdict status → IsPutOut status text
+      → IsSaidSo status text → (reply : Reply) → IsReplyOf verdict text reply → AnswersTo status reply
+  matches verdict status text (inl same) put line reply is =
+      subst (λ (s : Status). AnswersTo s reply) (sym same)
+      (same_matches verdict text (subst (λ (s : Status). IsPutOut s text) same put)
+      (subst (λ (s : Status). IsSaidSo s text) same line) reply is)
+  matches verdict status text (inr failed) put line reply is =
+      let front : IsPutOut WriteFault text = subst (λ (s : Status). IsPutOut s text) failed.1 put in
+      let by : reply ≡ accepted text = subst (λ (s : Status). IsReplyOf s text reply) failed.0 is in
+      subst (λ (s : Status). AnswersTo s reply) (sym failed.1) (
+        ap (λ r. r.status) by,
+        subst (AppendsFront (written out) (written out')) (front.is_one ∙ sym (ap (λ r. r.output) by)) front.is_put,
+      )
 
   pub answers : (words : List (List ℕ)) (t : TaskValue) (May : World → Type 0) (I : Type 0) (F : List ℕ → Type 0)
-      (verdict status : Status) (text : List ℕ) (old new : Option (List ℕ))
-      → task_of words ≡ Some t → IsTextOf verdict t May I F text → Ends verdict status
-      → WritesText status old new text → IsLined written faults err err' text status
-      → Every May (λ world. MatchesReply status (answer words world) old new (WritesLine written faults err err'))
-  answers words t May I F verdict status text old new read says ends writes line =
-      replied words t May I F verdict text
-      (λ reply. MatchesReply status reply old new (WritesLine written faults err err'))
-      read says (matches verdict status text old new ends writes line)
+      (verdict status : Status) (text : List ℕ) → task_of words ≡ Some t → IsTextOf verdict t May I F text
+      → Ends verdict status → IsPutOut status text → IsSaidSo status text
+      → Every May (λ world. AnswersTo status (answer words world))
+  answers words t May I F verdict status text read says ends put line =
+      replied words t May I F verdict text (AnswersTo status) read says (matches verdict status text ends put line)
 
--- ---- what is written
+  -- ---- what is written, and what is said
 
-module _ {O : Type 0} (written : O → Option (List ℕ)) (flushed : O → Option ℕ) (old new : O) (t : TaskValue)
-    (May : World → Type 0) (I : Type 0) (F : List ℕ → Type 0) where
-  abbrev PutsOut : Status → Type 0
-  PutsOut status = Outputs status written flushed old new (IsOutput (Some t) May)
+  module _ (t : TaskValue) (May : World → Type 0) (d : Failures) where
+    abbrev PutsOut : Status → Type 0
+    PutsOut status = Outputs status written flushed out out' (IsOutput (Some t) May)
 
-  same_outputs : (status : Status) (text : List ℕ) → IsTextOf status t May I F text
-      → WritesText status (written old) (written new) text → (IsSilent status → new ≡ old)
-      → (status ≡ Accepted → FlushesAll (flushed old) (written new) (flushed new)) → PutsOut status
-  same_outputs Accepted text says writes silent flushes =
-      record { text = text; is_one = says; is_put = (writes, flushes refl) }
-  same_outputs Refused text says writes silent flushes = silent tt
-  same_outputs NoFile text says writes silent flushes = silent tt
-  same_outputs ReadFault text says writes silent flushes = silent tt
-  same_outputs Usage text says writes silent flushes = absurd says
-  same_outputs WriteFault text says writes silent flushes = absurd says
-  same_outputs Memory text says writes silent flushes = absurd says
+    same_outputs : (status : Status) (text : List ℕ) → IsTextOf status t May d.input d.file text
+        → IsPutOut status text → PutsOut status
+    same_outputs Accepted text says put = record {
+      text = put.text;
+      is_one = subst (IsReport t May) (sym put.is_one) says;
+      is_put = put.is_put;
+    }
+    same_outputs Refused text says put = put
+    same_outputs NoFile text says put = put
+    same_outputs ReadFault text says put = put
+    same_outputs Usage text says put = absurd says
+    same_outputs WriteFault text says put = absurd says
+    same_outputs Memory text says put = absurd says
 
-  outputs : (verdict status : Status) (text : List ℕ) → IsTextOf verdict t May I F text
-      → Ends verdict status → WritesText status (written old) (written new) text → (IsSilent status → new ≡ old)
-      → (status ≡ Accepted → FlushesAll (flushed old) (written new) (flushed new)) → PutsOut status
-  outputs verdict status text says (inl same) writes silent flushes =
-      subst PutsOut (sym same)
-      (same_outputs verdict text says
-      (subst (λ (s : Status). WritesText s (written old) (written new) text) same writes)
-      (subst (λ (s : Status). IsSilent s → new ≡ old) same silent) (λ is. flushes (same ∙ is)))
-  outputs verdict status text says (inr failed) writes silent flushes =
-      subst PutsOut (sym failed.1) (record {
-        text = text;
-        is_one = subst (λ (s : Status). IsTextOf s t May I F text) failed.0 says;
-        is_put = subst (λ (s : Status). WritesText s (written old) (written new) text) failed.1 writes;
-      })
+    outputs : (verdict status : Status) (text : List ℕ) → IsTextOf verdict t May d.input d.file text
+        → Ends verdict status → IsPutOut status text → PutsOut status
+    outputs verdict status text says (inl same) put =
+        subst PutsOut (sym same) (same_outputs verdict text says (subst (λ (s : Status). IsPutOut s text) same put))
+    outputs verdict status text says (inr failed) put =
+        let front : IsPutOut WriteFault text = subst (λ (s : Status). IsPutOut s text) failed.1 put in
+        let report : IsReport t May text =
+        subst (λ (s : Status). IsTextOf s t May d.input d.file text) failed.0 says in
+        subst PutsOut (sym failed.1) (record {
+          text = front.text;
+          is_one = subst (IsReport t May) (sym front.is_one) report;
+          is_put = front.is_put;
+        })
 
-  pub output_is : (words : List (List ℕ)) (verdict status : Status) (text : List ℕ) → task_of words ≡ Some t
-      → IsTextOf verdict t May I F text → Ends verdict status
-      → WritesText status (written old) (written new) text → (IsSilent status → new ≡ old)
-      → (status ≡ Accepted → FlushesAll (flushed old) (written new) (flushed new))
-      → Outputs status written flushed old new (IsOutput (task_of words) May)
-  output_is words verdict status text read says ends writes silent flushes =
-      rw read (outputs verdict status text says ends writes silent flushes)
+    abbrev SaysOf : Status → Type 0
+    SaysOf status = SaysWhy status said faults err err' (IsErrorLine status (Some t) May d)
 
--- ---- what is said
+    why_said : (P : List ℕ → Type 0) (text : List ℕ) → P text
+        → SomeText (λ line. line ≡ text) (WritesLine said faults err err')
+        → SomeText P (WritesLine said faults err err')
+    why_said P text is line = record {
+      text = line.text;
+      is_one = subst P (sym line.is_one) is;
+      is_put = line.is_put;
+    }
 
-module _ {E : Type 0} (written : E → Option (List ℕ)) (faults : E → ℕ) (old new : E) (t : TaskValue)
-    (May : World → Type 0) (d : Failures) where
-  abbrev SaysOf : Status → Type 0
-  SaysOf status = SaysWhy status written faults old new (IsErrorLine status (Some t) May d)
+    same_why : (status : Status) (text : List ℕ) → IsTextOf status t May d.input d.file text
+        → (status ≡ NoFile → d.missing) → IsSaidSo status text → SaysOf status
+    same_why Accepted text says missing line = line
+    same_why Refused text says missing line = why_said (IsErrorLine Refused (Some t) May d) text says line
+    same_why NoFile text says missing line =
+        why_said (IsErrorLine NoFile (Some t) May d) text (says, missing refl) line
+    same_why ReadFault text says missing line = why_said (IsErrorLine ReadFault (Some t) May d) text says line
+    same_why Usage text says missing line = absurd says
+    same_why WriteFault text says missing line = absurd says
+    same_why Memory text says missing line = absurd says
 
-  same_why : (status : Status) (text : List ℕ) → IsTextOf status t May d.input d.file text
-      → (status ≡ NoFile → d.missing) → IsLined written faults old new text status
-      → (status ≡ Accepted → new ≡ old) → SaysOf status
-  same_why Accepted text says missing line quiet = quiet refl
-  same_why Refused text says missing line quiet = record { text = text; is_one = says; is_put = line }
-  same_why NoFile text says missing line quiet =
-      record { text = text; is_one = (says, missing refl); is_put = line }
-  same_why ReadFault text says missing line quiet = record { text = text; is_one = says; is_put = line }
-  same_why Usage text says missing line quiet = absurd says
-  same_why WriteFault text says missing line quiet = absurd says
-  same_why Memory text says missing line quiet = absurd says
-
-  why : (verdict status : Status) (text : List ℕ) → IsTextOf verdict t May d.input d.file text
-      → (verdict ≡ NoFile → d.missing) → Ends verdict status → IsLined written faults old new text status
-      → (status ≡ Accepted → new ≡ old) → (status ≡ WriteFault → d.output) → SaysOf status
-  why verdict status text says missing (inl same) line quiet unwritten =
-      subst SaysOf (sym same)
-      (same_why verdict text says missing (subst (IsLined written faults old new text) same line)
-      (λ is. quiet (same ∙ is)))
-  why verdict status text says missing (inr failed) line quiet unwritten =
-      subst SaysOf (sym failed.1) (record {
-        text = write_fault_line;
-        is_one = (refl, unwritten failed.1);
-        is_put = subst (IsLined written faults old new text) failed.1 line;
-      })
-
-  pub why_is : (words : List (List ℕ)) (verdict status : Status) (text : List ℕ) → task_of words ≡ Some t
-      → IsTextOf verdict t May d.input d.file text → (verdict ≡ NoFile → d.missing) → Ends verdict status
-      → IsLined written faults old new text status → (status ≡ Accepted → new ≡ old)
-      → (status ≡ WriteFault → d.output)
-      → SaysWhy status written faults old new (IsErrorLine status (task_of words) May d)
-  why_is words verdict status text read says missing ends line quiet unwritten =
-      rw read (why verdict status text says missing ends line quiet unwritten)
+    why : (verdict status : Status) (text : List ℕ) → IsTextOf verdict t May d.input d.file text
+        → (verdict ≡ NoFile → d.missing) → Ends verdict status → IsSaidSo status text
+        → (status ≡ WriteFault → d.output) → SaysOf status
+    why verdict status text says missing (inl same) line unwritten =
+        subst SaysOf (sym same) (same_why verdict text says missing (subst (λ (s : Status). IsSaidSo s text) same line))
+    why verdict status text says missing (inr failed) line unwritten =
+        subst SaysOf (sym failed.1)
+        (why_said (IsErrorLine WriteFault (Some t) May d) write_fault_line (refl, unwritten failed.1)
+        (subst (λ (s : Status). IsSaidSo s text) failed.1 line))
 
 -- ---- a read fault where no count rose
 
@@ -279,28 +269,28 @@ complete words t May at verdict status text i j f g O read says ends unwritten =
 
 -- ---- other statuses
 
--- what another status than these two writes
-pub writes_nothing : (status : Status) (old new : Option (List ℕ)) (text : List ℕ) → ¬ (status ≡ Accepted)
-    → ¬ (status ≡ WriteFault) → WritesText status old new text
-writes_nothing Accepted old new text loud written = absurd (loud refl)
-writes_nothing WriteFault old new text loud written = absurd (written refl)
-writes_nothing Refused old new text loud written = tt
-writes_nothing Usage old new text loud written = tt
-writes_nothing NoFile old new text loud written = tt
-writes_nothing ReadFault old new text loud written = tt
-writes_nothing Memory old new text loud written = tt
+-- with another status than these two nothing is written, and the verdict's line is said
+module _ {O E : Type 0} (written : O → Option (List ℕ)) (flushed : O → Option ℕ) (out : O)
+    (said : E → Option (List ℕ)) (faults : E → ℕ) (err err' : E) where
+  pub nothing_written : (status : Status) (text : List ℕ) → ¬ (status ≡ Accepted) → ¬ (status ≡ WriteFault)
+      → Outputs status written flushed out out (λ x. x ≡ text)
+  nothing_written Accepted text loud written = absurd (loud refl)
+  nothing_written WriteFault text loud written = absurd (written refl)
+  nothing_written Refused text loud written = refl
+  nothing_written Usage text loud written = refl
+  nothing_written NoFile text loud written = refl
+  nothing_written ReadFault text loud written = refl
+  nothing_written Memory text loud written = refl
 
-pub other_line : {E : Type 0} (written : E → Option (List ℕ)) (faults : E → ℕ) (old new : E) (status : Status)
-    (text : List ℕ)
-    → ¬ (status ≡ Accepted) → ¬ (status ≡ WriteFault) → WritesLine written faults old new text
-    → IfSome (error_line text status) (WritesLine written faults old new)
-other_line written faults old new Accepted text loud unwritten line = absurd (loud refl)
-other_line written faults old new WriteFault text loud unwritten line = absurd (unwritten refl)
-other_line written faults old new Refused text loud unwritten line = line
-other_line written faults old new Usage text loud unwritten line = line
-other_line written faults old new NoFile text loud unwritten line = line
-other_line written faults old new ReadFault text loud unwritten line = line
-other_line written faults old new Memory text loud unwritten line = line
+  pub other_line : (status : Status) (text : List ℕ) → ¬ (status ≡ Accepted) → ¬ (status ≡ WriteFault)
+      → WritesLine said faults err err' text → SaysWhy status said faults err err' (λ line. line ≡ said_line status text)
+  other_line Accepted text loud unwritten line = absurd (loud refl)
+  other_line WriteFault text loud unwritten line = absurd (unwritten refl)
+  other_line Refused text loud unwritten line = record { text = text; is_one = refl; is_put = line }
+  other_line Usage text loud unwritten line = record { text = text; is_one = refl; is_put = line }
+  other_line NoFile text loud unwritten line = record { text = text; is_one = refl; is_put = line }
+  other_line ReadFault text loud unwritten line = record { text = text; is_one = refl; is_put = line }
+  other_line Memory text loud unwritten line = record { text = text; is_one = refl; is_put = line }
 
 -- the status of a task's verdict is neither of these, and there is a command
 pub no_write_fault : (t : TaskValue) (May : World → Type 0) (I : Type 0) (F : List ℕ → Type 0) (status : Status)
@@ -330,10 +320,9 @@ module _ {O E : Type 0} (written : O → Option (List ℕ)) (flushed : O → Opt
   pub is_answered : (t : TaskValue) (May : World → Type 0) (at : Option (List ℕ)) (verdict status : Status)
       (text : List ℕ) (i j f g : ℕ) (M P : Type 0)
       → task_of words ≡ Some t → IsTextOf verdict t May (CountRose i j) (FileFailed at f g) text
-      → (verdict ≡ NoFile → M) → Ends verdict status → WritesText status (written out) (written out') text
-      → (IsSilent status → out' ≡ out)
-      → (status ≡ Accepted → FlushesAll (flushed out) (written out') (flushed out'))
-      → (status ≡ Accepted → err' ≡ err) → IsLined said faults err err' text status → (status ≡ WriteFault → P)
+      → (verdict ≡ NoFile → M) → Ends verdict status
+      → Outputs status written flushed out out' (λ x. x ≡ text)
+      → SaysWhy status said faults err err' (λ line. line ≡ said_line status text) → (status ≡ WriteFault → P)
       → IsAnswered words status (record {
         input = CountRose i j;
         file = FileFailed at f g;
@@ -341,21 +330,21 @@ module _ {O E : Type 0} (written : O → Option (List ℕ)) (flushed : O → Opt
         missing = M;
         output = P;
       }) written flushed out out' said faults err err' May
-  is_answered t May at verdict status text i j f g M P read says missing ends writes silent flushes quiet line
-      unwritten =
+  is_answered t May at verdict status text i j f g M P read says missing ends put line unwritten =
       let I : Type 0 = CountRose i j in
       let F : List ℕ → Type 0 = FileFailed at f g in
       let d : Failures = record { input = I; file = F; files = CountRose f g; missing = M; output = P } in
       record {
         reply =
-            answers said faults err err' words t May I F verdict status text (written out) (written out') read says
-            ends writes line;
+            answers written flushed out out' said faults err err' words t May I F verdict status text read says ends
+            put line;
         complete = complete words t May at verdict status text i j f g P read says ends unwritten;
         output =
-            output_is written flushed out out' t May I F words verdict status text read says ends writes silent
-            flushes;
+            rw read (outputs written flushed out out' said faults err err' t May d verdict status text says ends put);
         error =
-            why_is said faults err err' t May d words verdict status text read says missing ends line quiet unwritten;
+            rw read
+            (why written flushed out out' said faults err err' t May d verdict status text says missing ends line
+            unwritten);
       }
 
   -- where memory ran out

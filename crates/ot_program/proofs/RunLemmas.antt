@@ -24,7 +24,7 @@ use Rattle.ot_program.specs.Runs.{assumptions_of, definitions_of, exports_of}
 use Rattle.ot_program.specs.Command.{run_lists, IsProved}
 use Rattle.ot_program.specs.RunInput.{summary, AreSupported}
 use Rattle.ot_program.specs.Endings.{ran_from}
-use Rattle.ot_program.specs.Verdicts.{IsSaid, SummaryEndsAs, IsLawfulEnds}
+use Rattle.ot_program.specs.Verdicts.{IsSaid, IsPrinted, IsLawfulEnds}
 use Rattle.ot_program.specs.declared.report.Verdict.{Verdict}
 use Rattle.ot_program.specs.declared.status.Status.TheVariants.{Accepted, Refused}
 use Rattle.ot_program.proofs.LimitLemmas.{text_printed, text_too_large}
@@ -112,7 +112,7 @@ pub summary_printed : (path : List ℕ) (sections : Sections) (s : Session) (see
     → IsRun s → seen ≡ s.kernel → ths ≡ map (λ e. e.th) es → max ≡ summary_limit → old ≡ [] → v.status ≡ Accepted
     → Appended (summary_text sections seen.assumptions seen.definitions (map (theorem_at seen) ths)) max old
     v.text.items
-    → SummaryEndsAs path sections (ran_from s es) v
+    → IsPrinted summary_limit (summary sections (ran_from s es)) (large_line path) v
 summary_printed path sections s seen es ths max old v r same are limit empty status printed =
     text_printed (summary sections (ran_from s es)) (large_line path) max old v limit empty status
     (subst (λ (t : List ℕ). Appended t max old v.text.items) (summary_is sections s seen es ths r same are) printed)
@@ -122,7 +122,8 @@ pub summary_too_large : {E : Type 0} (path : List ℕ) (sections : Sections) (s 
     (seen : State) (es : List Export) (ths : List ℕ) (max : ℕ) (a : Result Verdict E)
     → IsRun s → seen ≡ s.kernel → ths ≡ map (λ e. e.th) es → max ≡ summary_limit
     → max < length (summary_text sections seen.assumptions seen.definitions (map (theorem_at seen) ths))
-    → IfOk a (λ v. IsSaid v Refused (large_line path)) → IfOk a (SummaryEndsAs path sections (ran_from s es))
+    → IfOk a (λ v. IsSaid v Refused (large_line path))
+    → IfOk a (IsPrinted summary_limit (summary sections (ran_from s es)) (large_line path))
 summary_too_large path sections s seen es ths max a r same are limit past said =
     text_too_large (summary sections (ran_from s es)) (large_line path) max a limit
     (subst (λ (t : List ℕ). max < length t) (summary_is sections s seen es ths r same are) past) said

@@ -10,10 +10,10 @@ use Rattle.ot_print.specs.Laws.{TextsNameOne}
 use Rattle.ot_program.specs.World.{World}
 use Rattle.ot_program.specs.Tasks.{RunSample}
 use Rattle.ot_program.specs.Runs.{outcome}
-use Rattle.ot_program.specs.Command.{run_lists, IsProved}
+use Rattle.ot_program.specs.Command.{run_lists, IsProved, End, Finished, Stopped, Failed, IsAnswer}
 use Rattle.ot_program.specs.RunInput.{article_fits, article_text, IsRewritten}
 use Rattle.ot_program.specs.Samples.{sample_path, sample_line}
-use Rattle.ot_program.specs.Endings.{End, Finished, Stopped, Failed, IsAnswer, HasTaskCause, HasTaskEnd, HasOwnCause}
+use Rattle.ot_program.specs.Endings.{HasTaskCause, HasTaskEnd, HasOwnCause}
 use Rattle.ot_program.specs.Verdicts.{EndsAs, IsVerdictOf}
 use Rattle.ot_program.specs.declared.report.Verdict.{Verdict}
 use Rattle.ot_program.specs.declared.status.Status.TheVariants.{Accepted}

@@ -6,7 +6,6 @@ use Rattle.std.proofs.Common.{◌≡◌, ℕ, List, [], refl}
 use Rattle.std.proofs.lemmas.List.Elements.{All-nil, All-cons, All-map}
 use Rattle.ot_logic.specs.Names.{Name}
 use Rattle.ot_logic.specs.Naming.{names}
-use Rattle.ot_logic.specs.Trees.{Sequent}
 use Rattle.ot_logic.specs.Answers.{◌>>=◌, some_or}
 use Rattle.ot_logic.specs.Limits.{article_limit}
 use Rattle.ot_laws.specs.Theorem.{IsTheorem}
@@ -16,7 +15,7 @@ use Rattle.ot_args.specs.Grammar.{is_theory}
 use Rattle.ot_blocks.specs.Paths.{package_path}
 use Rattle.ot_repo.specs.Required.{Refusal}
 use Rattle.ot_scan.specs.Lines.{lines_of}
-use Rattle.ot_theory.specs.Lines.{LineText, lines_of as text_lines}
+use Rattle.ot_theory.specs.Lines.{lines_of as text_lines}
 use Rattle.ot_link.specs.Stops.{Stop, Missing, Linked}
 use Rattle.ot_link.specs.Blocks.{Ran, article_end}
 use Rattle.ot_link.specs.Laws.{IsAnyName, IsLawfulRan, EndsAreLawful}
@@ -25,25 +24,23 @@ use Rattle.ot_log_format.specs.Check.{Outcome as LogOutcome, Ends, Stops}
 use Rattle.ot_log_format.specs.Sound.{LogsAreSound}
 use Rattle.ot_verify.specs.Reading.{log_check, tokens_of}
 use Rattle.ot_verify.specs.Verifying.{proved_by}
-use Rattle.ot_read.specs.Lines.{RefusedLine, at_line, term_read, lines_read}
+use Rattle.ot_read.specs.Lines.{at_line, term_read, lines_read}
 use Rattle.ot_sample.specs.Sample.{sample}
-use Rattle.ot_program.specs.World.{World}
-use Rattle.ot_program.specs.Tasks.{TaskValue, RunInput, RunSample, MakeSample, CheckLog, ShowReadable}
-use Rattle.ot_program.specs.Tasks.{ReadLines, FindPattern, is_standard}
-use Rattle.ot_program.specs.Runs.{run_at, standard_run, article_run, theory_run, outcome}
-use Rattle.ot_program.specs.Runs.{limits, Noted, shown_at, noted, noted_at, notation}
+use Rattle.ot_program.specs.World.{World, is_standard}
+use Rattle.ot_program.specs.Tasks.{TaskValue, RunInput, RunSample, MakeSample, CheckLog, ShowReadable, ReadLines}
+use Rattle.ot_program.specs.Tasks.{FindPattern, command}
+use Rattle.ot_program.specs.Runs.{run_at, standard_run, article_run, theory_run, outcome, limits, Noted, shown_at}
+use Rattle.ot_program.specs.Runs.{noted, noted_at, notation, stops_as}
 use Rattle.ot_program.specs.Command.{run_lists, IsProved}
 use Rattle.ot_program.specs.Samples.{sample_path}
 use Rattle.ot_program.specs.CheckLog.{log_lists, log_end, check_bytes, check_file, check_at, NoLog}
-use Rattle.ot_program.specs.ReadLines.{Readings, ReadStop, text_in, readings, read_under, read_in, read_behind}
-use Rattle.ot_program.specs.ReadLines.{read_at}
-use Rattle.ot_program.specs.FindPattern.{PackageRun, Searched, FindStop, InRequired, InRun, InPattern}
-use Rattle.ot_program.specs.FindPattern.{stops_as, package_runs, required_at, search, find_at}
+use Rattle.ot_program.specs.ReadLines.{Readings, ReadStop, InInput, InLine, text_in, read_in, read_at}
+use Rattle.ot_program.specs.FindPattern.{PackageRun, Searched, FindStop, InRequired, InRun, InPattern, package_runs}
+use Rattle.ot_program.specs.FindPattern.{required_at, find_at}
 use Rattle.ot_program.specs.Laws.{AnswersAreSound}
 use Rattle.ot_uses.proofs.Goodness.{if_bind, any_bind}
-use Rattle.ot_program.proofs.FindingLemmas.{ok_more}
+use Rattle.ot_program.proofs.FindingLemmas.{ok_more, search}
 use Rattle.ot_program.proofs.LogLemmas.{log_proved}
-use Rattle.ot_program.specs.Reply.{command}
 
 -- ---- where an answer is made of others
 
@@ -120,21 +117,22 @@ module _ (ends : EndsAreLawful) (sound : LawfulIsSound IsAnyName) where
   abbrev EndsRead : Result Readings ReadStop → Type 0
   EndsRead r = IfOk r (λ read. IsProvedNoted read.noted)
 
-  read_under_proved : (n : Noted) → IsProvedNoted n → (ls : List LineText) → EndsRead (read_under n ls)
-  read_under_proved n h ls = by (lines_read (notation n) ls)
-    where
-      by : (r : Result (List (Sequent Name)) RefusedLine) → EndsRead (readings n ls r)
-      by (Ok qs) = h
-      by (Err refused) = tt
+  read_in_proved : (n : Noted) → IsProvedNoted n → (text : List ℕ) (folder : Folder) → EndsRead (read_in n text folder)
+  read_in_proved n h text folder =
+      any_bind (text_in text folder)
+      (λ bytes. stops_as InLine (lines_read (notation n) (text_lines bytes)) >>= λ qs.
+      Ok (record { noted = n; lines = text_lines bytes; sequents = qs }))
+      (λ read. IsProvedNoted read.noted)
+      (λ bytes. any_bind (stops_as InLine (lines_read (notation n) (text_lines bytes)))
+      (λ qs. Ok (record { noted = n; lines = text_lines bytes; sequents = qs })) (λ read. IsProvedNoted read.noted)
+      (λ qs. h))
 
   read_proved : (packages path text : List ℕ) (world : World) → EndsRead (read_at packages path text world)
-  read_proved packages path text world = by (noted_at packages path world) (noted_proved packages path world)
-    where
-      by : (r : Result Noted Stop) → EndsNoted r → EndsRead (read_behind text world.folder r)
-      by (Err stop) h = tt
-      by (Ok n) h =
-          any_bind (text_in text world.folder) (λ bytes. read_under n (text_lines bytes))
-          (λ read. IsProvedNoted read.noted) (λ bytes. read_under_proved n h (text_lines bytes))
+  read_proved packages path text world =
+      if_bind (stops_as InInput (noted_at packages path world)) (λ n. read_in n text world.folder) IsProvedNoted
+      (λ read. IsProvedNoted read.noted)
+      (as_stop InInput (noted_at packages path world) IsProvedNoted (noted_proved packages path world))
+      (λ n h. read_in_proved n h text world.folder)
 
   -- ---- a search
 

@@ -3,11 +3,10 @@ use Rattle.std.proofs.Common.{◌≡◌, ℕ, List, refl}
 use Rattle.std.specs.Prelude.{Bool, true, false, MatchBool, Option, Some, None, IfSome}
 use Rattle.std.specs.Option.{option_map}
 use Rattle.ot_io.specs.Folder.{Folder, bytes_at, path_asked}
-use Rattle.ot_program.specs.World.{World, Every}
-use Rattle.ot_program.specs.Tasks.{TaskValue, is_standard}
-use Rattle.ot_program.specs.Command.{IsReadPath}
-use Rattle.ot_program.specs.Endings.{End, IsAnswer, HasTaskCause, HasTaskEnd}
-use Rattle.ot_program.specs.Reply.{command}
+use Rattle.ot_program.specs.World.{World, Every, is_standard}
+use Rattle.ot_program.specs.Tasks.{TaskValue, command}
+use Rattle.ot_program.specs.Endings.{HasTaskCause, HasTaskEnd}
+use Rattle.ot_program.specs.Command.{End, IsAnswer}
 
 -- one end is that of each
 pub every_some : {A X : Type 0} (May : A → Type 0) (P : A → X → Type 0) (o : Option X)
@@ -22,6 +21,10 @@ pub task_ended : (t : TaskValue) (I : Type 0) (F : List ℕ → Type 0) (M : Typ
     → IfSome o (λ e. HasTaskEnd t I F M e May)
 task_ended t I F M May None ended cause = tt
 task_ended t I F M May (Some e) ended cause = record { end = ended; cause = cause }
+
+-- the path of an input that failed, where a file that failed is one of `N`
+abbrev pub IsReadPath : List ℕ → (N I : Type 0) → (F : List ℕ → Type 0) → List ℕ → Type 0
+IsReadPath path N I F failed = MatchBool (is_standard path) ((failed ≡ path) × I) (N × F failed)
 
 -- the path of standard input, and of a file
 pub input_path : (path : List ℕ) (N I : Type 0) (F : List ℕ → Type 0) (failed : List ℕ) → is_standard path ≡ true

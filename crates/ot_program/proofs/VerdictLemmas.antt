@@ -4,21 +4,21 @@ use Rattle.std.specs.Prelude.{Bool, true, false, MatchBool, Option, Some, None, 
 use Rattle.ot_repo.specs.Required.{Refusal}
 use Rattle.ot_repo.specs.Required as repo
 use Rattle.ot_link.specs.Stops.{Stop, InArticle, InTheory, InStructure, TooLarge, Missing}
-use Rattle.ot_program.specs.Tasks.{TaskValue, RunInput, RunSample, MakeSample, CheckLog, ShowReadable}
-use Rattle.ot_program.specs.Tasks.{ReadLines, FindPattern}
+use Rattle.ot_program.specs.Tasks.{TaskValue, RunInput, RunSample, MakeSample, CheckLog, ShowReadable, ReadLines}
+use Rattle.ot_program.specs.Tasks.{FindPattern, command}
 use Rattle.ot_program.specs.Runs.{stop_status}
 use Rattle.ot_program.specs.CheckLog.{LogStop, InLog, NoLog, log_status}
 use Rattle.ot_program.specs.ReadLines.{ReadStop, InInput, NoText, TextTooLarge, InLine, read_status}
 use Rattle.ot_program.specs.FindPattern.{FindStop, InRequired, InRun, InPattern, required_status, find_status}
 use Rattle.ot_program.specs.Answer.{IsResult, IsStopLine}
 use Rattle.ot_program.specs.World.{World, anywhere}
-use Rattle.ot_program.specs.Endings.{End, Finished, Stopped, Failed, IsEnd, HasTaskCause, HasTaskEnd}
+use Rattle.ot_program.specs.Endings.{IsEnd, HasTaskCause, HasTaskEnd}
+use Rattle.ot_program.specs.Command.{End, Finished, Stopped, Failed}
 use Rattle.ot_program.specs.Verdicts.{IsSaid, IsFinal, IsVerdictOn, IsVerdictOf, IsTextOf, IsTaskVerdict}
 use Rattle.ot_program.specs.declared.report.Verdict.{Verdict}
 use Rattle.ot_program.specs.declared.status.Status.{Status}
 use Rattle.ot_program.specs.declared.status.Status.TheVariants.{Accepted, Refused, Usage, NoFile}
 use Rattle.ot_program.specs.declared.status.Status.TheVariants.{ReadFault, WriteFault, Memory}
-use Rattle.ot_program.specs.Reply.{command}
 
 -- ---- the status of a stop
 

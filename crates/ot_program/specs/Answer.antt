@@ -8,8 +8,8 @@ use Rattle.ot_io.specs.Keeping.{KeepsFiles}
 use Rattle.ot_io.specs.Sinks.{AppendsFront, FlushesAll}
 use Rattle.ot_print.specs.Laws.{TextsNameOne}
 use Rattle.ot_program.specs.Command.{IsProved, LeavesBoth}
-use Rattle.ot_program.specs.Reply.{Reply, command, answer}
-use Rattle.ot_program.specs.Tasks.{TaskValue, task, task_of}
+use Rattle.ot_program.specs.Reply.{Reply, answer}
+use Rattle.ot_program.specs.Tasks.{TaskValue, task, task_of, command}
 use Rattle.ot_program.specs.Texts.{usage_line, read_fault_line, write_fault_line, memory_line}
 use Rattle.ot_program.specs.World.{World, Every}
 use Rattle.ot_program.specs.declared.status.Status.{Status}

@@ -1,5 +1,6 @@
 -- The command `verify`.
-use Rattle.std.specs.Prelude.{ℕ, List, [], ◌∷◌, true, length, nat_le, Result, Ok, Err, if◌then◌else◌, ◌≡◌, MatchBool}
+use Rattle.std.specs.Prelude.{ℕ, List, [], ◌∷◌, true, length, nat_le, Option, Some, None, Result, Ok, Err}
+use Rattle.std.specs.Prelude.{if◌then◌else◌, ◌≡◌, MatchBool}
 use Rattle.ot_io.specs.Folder.{Folder, bytes_at, path_asked}
 use Rattle.ot_logic.specs.Answers.{◌>>=◌, some_or}
 use Rattle.ot_logic.specs.Names.{Name}
@@ -7,11 +8,13 @@ use Rattle.ot_logic.specs.Limits.{article_limit, summary_limit}
 use Rattle.ot_log_format.specs.Check.{Outcome as LogOutcome, Ends, Stops}
 use Rattle.ot_log_format.specs.Tokens.{LogFault}
 use Rattle.ot_verify.specs.Reading.{log_check}
+use Rattle.ot_verify.specs.Taking.{fault_of as log_fault_of}
 use Rattle.ot_verify.specs.Verifying.{Proved, proved_by, proved_text}
-use Rattle.ot_program.specs.Command.{Lists, LeavesOther, IsInputPath, Command}
-use Rattle.ot_program.specs.Tasks.{is_standard}
+use Rattle.ot_program.specs.Command.{Lists, LeavesOther, IsInputPath, End, Finished, Stopped, Failed, Command}
 use Rattle.ot_program.specs.Texts.{log_line, missing_line, large_line}
-use Rattle.ot_program.specs.World.{World}
+use Rattle.ot_program.specs.World.{World, is_standard}
+use Rattle.ot_program.specs.declared.log.LogRefusal.{LogRefusal}
+use Rattle.ot_program.specs.declared.log.LogRefusal.TheVariants as refusals
 use Rattle.ot_program.specs.declared.status.Status.{Status}
 use Rattle.ot_program.specs.declared.status.Status.TheVariants.{Refused, NoFile}
 
@@ -71,3 +74,13 @@ check_log path = record {
   Leaves = LeavesOther path;
   Last = λ folder at. MatchBool (is_standard path) (Unit {0}) (at ≡ path_asked folder path);
 }
+
+-- ---- the answer of the code
+
+-- the end that the check of the log of a path stands for; none where memory ran out
+abbrev pub log_end_of : List ℕ → Result Proved LogRefusal → Option (End Proved LogStop)
+log_end_of path (Ok proved) = Some (Finished proved)
+log_end_of path (Err (refusals.At line fault)) = Some (Stopped (InLog line (log_fault_of fault)))
+log_end_of path (Err refusals.NoFile) = Some (Stopped NoLog)
+log_end_of path (Err refusals.ReadFault) = Some (Failed path)
+log_end_of path (Err (refusals.Memory memory)) = None

@@ -1,6 +1,6 @@
 -- A command of the program: one record for each.
 use Rattle.std.specs.List.{All}
-use Rattle.std.specs.Prelude.{ℕ, List, Bool, Option, Result, ◌≡◌, ◌⊎◌, ◌||◌, MatchBool, IfErr}
+use Rattle.std.specs.Prelude.{ℕ, List, Bool, Option, Result, Ok, Err, ◌≡◌, ◌⊎◌, ◌||◌, MatchBool, IfErr}
 use Rattle.ot_args.specs.Grammar.{is_theory}
 use Rattle.ot_io.specs.Folder.{Folder, path_asked}
 use Rattle.ot_laws.specs.Theorem.{IsTheorem}
@@ -11,9 +11,9 @@ use Rattle.ot_logic.specs.Names.{Name}
 use Rattle.ot_logic.specs.Naming.{names}
 use Rattle.ot_logic.specs.Trees.{Sequent, Definition}
 use Rattle.ot_program.specs.Runs.{assumptions_of, definitions_of, exports_of}
-use Rattle.ot_program.specs.Tasks.{is_standard}
-use Rattle.ot_program.specs.World.{World, Every}
+use Rattle.ot_program.specs.World.{World, Every, is_standard}
 use Rattle.ot_program.specs.declared.status.Status.{Status}
+use Rattle.ot_program.specs.declared.status.Status.TheVariants.{NoFile}
 
 -- ---- of which lists a text is a report
 
@@ -59,21 +59,35 @@ LastOf path text folder at =
 abbrev pub HasNoStop : {A S : Type 0} → Result A S → Type 0
 HasNoStop answer = IfErr answer (λ stop. ⊥)
 
--- the path of an input that failed: `-`, where standard input failed, or that of a needed file, which failed
-abbrev pub IsReadPath : List ℕ → (IsNeededFile : Type 0) → (InputFails : Type 0) → (FileFails : List ℕ → Type 0)
-    → List ℕ → Type 0
-IsReadPath path IsNeededFile InputFails FileFails failed =
-    MatchBool (is_standard path) ((failed ≡ path) × InputFails) (IsNeededFile × FileFails failed)
-
--- a file that the input needs, in each world that may be
-abbrev pub IsNeededFile : (opened : Folder → List (List ℕ)) → (May : World → Type 0) → List ℕ → Type 0
-IsNeededFile opened May file = Every May (λ world. IsMember file (opened world.folder))
-
--- the path that failed is that of the input, or of a file which it needs
+-- the path of an input that failed: `-`, where standard input failed, or that of a file which failed and which the input
+-- needs in each world that may be
 abbrev pub IsInputPath : (path : List ℕ) → (opened : Folder → List (List ℕ)) → (May : World → Type 0)
     → (InputFails : Type 0) → (FileFails : List ℕ → Type 0) → List ℕ → Type 0
 IsInputPath path opened May InputFails FileFails failed =
-    IsReadPath path (IsNeededFile opened May failed) InputFails FileFails failed
+    MatchBool (is_standard path) ((failed ≡ path) × InputFails)
+    (Every May (λ world. IsMember failed (opened world.folder)) × FileFails failed)
+
+-- ---- how a command ends
+
+-- a command ends with its product, at a stop, or at a path that failed
+pub data End (X S : Type 0) : Type 0 where
+  Finished : X → End X S
+  Stopped : S → End X S
+  Failed : List ℕ → End X S
+
+-- the end says what is answered
+abbrev pub IsAnswer : {X S : Type 0} → Result X S → End X S → Type 0
+IsAnswer answer (Finished x) = answer ≡ Ok x
+IsAnswer answer (Stopped s) = answer ≡ Err s
+IsAnswer answer (Failed path) = Unit {0}
+
+-- why there is such an end: a stop is one of `Own`, and where its status is `NoFile` a missing file was counted; a path
+-- that failed is one of `Failing`
+abbrev pub HasCause : {X S : Type 0} → (S → Status) → (Own : S → Type 0) → (Failing : List ℕ → Type 0)
+    → (MissRose : Type 0) → End X S → Type 0
+HasCause status Own Failing MissRose (Finished x) = Unit {0}
+HasCause status Own Failing MissRose (Stopped s) = Own s × (status s ≡ NoFile → MissRose)
+HasCause status Own Failing MissRose (Failed path) = Failing path
 
 -- ---- the record
 

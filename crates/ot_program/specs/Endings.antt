@@ -1,11 +1,9 @@
 -- How a task ends. Only contracts of private functions and proofs speak of it.
-use Rattle.std.specs.Prelude.{◌≡◌, ◌≤◌, ℕ, List, [], map, length, Option, Some, None, Result, Ok, Err, Vec}
-use Rattle.std.specs.Prelude.{string_bytes}
+use Rattle.std.specs.Prelude.{◌≡◌, ℕ, List, [], map, length, Option, Some, None, Result, Ok, Err, Vec, string_bytes}
 use Rattle.std.specs.Global.{Global}
 use Rattle.std.specs.Option.{option_map}
 use Rattle.ot_logic.specs.Lists.{IsMember}
 use Rattle.ot_logic.specs.Names.{Name}
-use Rattle.ot_args.specs.declared.command.Usage as words
 use Rattle.ot_io.specs.Folder.{Folder}
 use Rattle.ot_kernel.specs.State as kernel
 use Rattle.ot_machine.specs.Faults.{fault_of}
@@ -21,68 +19,18 @@ use Rattle.ot_link.specs.declared.fault.LinkFault.{LinkFault}
 use Rattle.ot_link.specs.declared.fault.LinkFault.TheVariants as faults
 use Rattle.ot_read.specs.declared.lines.LineRefusal.{LineRefusal}
 use Rattle.ot_read.specs.declared.lines.LineRefusal.TheVariants as lines
-use Rattle.ot_verify.specs.Taking.{fault_of as log_fault_of}
-use Rattle.ot_verify.specs.Verifying.{Proved}
 use Rattle.ot_program.specs.World.{World, Every}
-use Rattle.ot_program.specs.Tasks.{TaskValue, RunInput, RunSample, MakeSample, CheckLog, ShowReadable, ReadLines}
-use Rattle.ot_program.specs.Tasks.{FindPattern}
+use Rattle.ot_program.specs.Command.{End, Finished, Stopped, Failed, IsAnswer, HasCause}
+use Rattle.ot_program.specs.Tasks.{TaskValue, command}
 use Rattle.ot_program.specs.Runs.{theory_run, Noted, stop_status, IsOwnStop}
-use Rattle.ot_program.specs.CheckLog.{LogStop, InLog, NoLog}
 use Rattle.ot_program.specs.ReadLines.{ReadStop, InInput, NoText, TextTooLarge, InLine, Readings, IsLineStop}
-use Rattle.ot_program.specs.Reply.{command}
-use Rattle.ot_program.specs.declared.status.Status.{Status}
-use Rattle.ot_program.specs.declared.status.Status.TheVariants.{NoFile}
 use Rattle.ot_program.specs.declared.report.Counts.{Counts}
-use Rattle.ot_program.specs.declared.task.Job.{Job}
-use Rattle.ot_program.specs.declared.task.Task.{Task}
-use Rattle.ot_program.specs.declared.task.Task.TheVariants as code
 use Rattle.ot_theory.specs.Lines.{lines_of}
 use Rattle.ot_parse.specs.Plain.{sequent_of}
 use Rattle.ot_program.specs.declared.noted.NotedRun.{NotedRun}
 use Rattle.ot_program.specs.declared.reading.LinesRead.{LinesRead}
 use Rattle.ot_program.specs.declared.reading.ReadingRefusal.{ReadingRefusal}
 use Rattle.ot_program.specs.declared.reading.ReadingRefusal.TheVariants as readings
-use Rattle.ot_program.specs.declared.log.LogRefusal.{LogRefusal}
-use Rattle.ot_program.specs.declared.log.LogRefusal.TheVariants as refusals
-
--- ---- what a command does
-
--- the run that a job asks for
-abbrev pub job_task : Job → TaskValue
-job_task j = RunInput j.packages.now j.path.now j.view
-
--- a task without where it lies in memory
-abbrev pub task_value : Task → TaskValue
-task_value (code.RunInput job) = job_task job
-task_value (code.RunSample count) = RunSample count
-task_value (code.MakeSample count) = MakeSample count
-task_value (code.CheckLog path) = CheckLog path.now
-task_value (code.ShowReadable packages path) = ShowReadable packages.now path.now
-task_value (code.ReadLines packages path text) = ReadLines packages.now path.now text.now
-task_value (code.FindPattern packages pattern path) = FindPattern packages.now pattern.now path.now
-
--- a sample is of a size that is made
-abbrev pub IsSized : TaskValue → Type 0
-IsSized (RunInput packages path view) = Unit {0}
-IsSized (RunSample n) = n ≤ 1000
-IsSized (MakeSample n) = n ≤ 1000
-IsSized (CheckLog path) = Unit {0}
-IsSized (ShowReadable packages path) = Unit {0}
-IsSized (ReadLines packages path text) = Unit {0}
-IsSized (FindPattern packages pattern path) = Unit {0}
-
--- what the code answers
-abbrev pub task_answer : Result Task words.Usage → Option TaskValue
-task_answer (Ok t) = Some (task_value t)
-task_answer (Err _) = None
-
--- ---- how a task ends
-
--- a task ends with its result, at a stop, or at a path that failed
-pub data End (X S : Type 0) : Type 0 where
-  Finished : X → End X S
-  Stopped : S → End X S
-  Failed : List ℕ → End X S
 
 -- the exports and the run that numbers stand for
 abbrev pub ran_from : Session → List Export → Ran
@@ -175,31 +123,9 @@ read_end_of text n (Err readings.NoFile) = Some (Stopped NoText)
 read_end_of text n (Err readings.ReadFault) = Some (Failed text)
 read_end_of text n (Err (readings.Memory memory)) = None
 
--- the end that the check of the log of a path stands for; none where memory ran out
-abbrev pub log_end_of : List ℕ → Result Proved LogRefusal → Option (End Proved LogStop)
-log_end_of path (Ok proved) = Some (Finished proved)
-log_end_of path (Err (refusals.At line fault)) = Some (Stopped (InLog line (log_fault_of fault)))
-log_end_of path (Err refusals.NoFile) = Some (Stopped NoLog)
-log_end_of path (Err refusals.ReadFault) = Some (Failed path)
-log_end_of path (Err (refusals.Memory memory)) = None
-
--- the end says what is answered
-abbrev pub IsAnswer : {X S : Type 0} → Result X S → End X S → Type 0
-IsAnswer answer (Finished x) = answer ≡ Ok x
-IsAnswer answer (Stopped s) = answer ≡ Err s
-IsAnswer answer (Failed path) = Unit {0}
-
 -- it is the end of the task in each world that may be
 abbrev pub IsEnd : (t : TaskValue) → (May : World → Type 0) → End ((command t).Product) ((command t).Halt) → Type 0
 IsEnd t May e = Every May (λ world. IsAnswer ((command t).result world) e)
-
--- why there is such an end: a stop is one of `Own`, and where its status is `NoFile` a missing file was counted; a path
--- that failed is one of `Failing`
-abbrev pub HasCause : {X S : Type 0} → (S → Status) → (Own : S → Type 0) → (Failing : List ℕ → Type 0)
-    → (MissRose : Type 0) → End X S → Type 0
-HasCause status Own Failing MissRose (Finished x) = Unit {0}
-HasCause status Own Failing MissRose (Stopped s) = Own s × (status s ≡ NoFile → MissRose)
-HasCause status Own Failing MissRose (Failed path) = Failing path
 
 -- why a task ends so: at a stop of its own, or at a path that it reads
 abbrev pub HasTaskCause : (t : TaskValue) → (May : World → Type 0) → (InputFails : Type 0)

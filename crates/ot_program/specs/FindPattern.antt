@@ -1,6 +1,6 @@
 -- The command `find`.
 use Rattle.std.specs.List.{All}
-use Rattle.std.specs.Prelude.{ℕ, List, [], ◌∷◌, ◌++◌, true, length, map, codes, nat_le, Result, Ok, Err}
+use Rattle.std.specs.Prelude.{ℕ, List, [], ◌∷◌, ◌++◌, true, length, map, codes, nat_le, Result, Ok}
 use Rattle.std.specs.Prelude.{if◌then◌else◌, ◌≡◌, ◌<◌, ◌-◌, ◌⊎◌, false}
 use Rattle.ot_args.specs.Grammar.{is_theory}
 use Rattle.ot_blocks.specs.Paths.{package_path}
@@ -20,11 +20,10 @@ use Rattle.ot_read.specs.Lines.{RefusedLine, at_line, term_read}
 use Rattle.ot_repo.specs.Laws.{IsWalked}
 use Rattle.ot_repo.specs.Required.{Refusal, Missing as NotThere, required}
 use Rattle.ot_program.specs.Command.{run_lists, IsProved, LeavesOther, LastInput, IsInputPath, HasNoStop, Command}
-use Rattle.ot_program.specs.Runs.{limits, theory_run, exports_of, Noted, theory_shown, noted, noted_at}
-use Rattle.ot_program.specs.Runs.{opened_noted, notation, stop_status, IsInputStop}
-use Rattle.ot_program.specs.Tasks.{is_standard}
+use Rattle.ot_program.specs.Runs.{limits, theory_run, exports_of, Noted, theory_shown, noted, noted_at, opened_noted}
+use Rattle.ot_program.specs.Runs.{notation, stop_status, stops_as, IsInputStop}
 use Rattle.ot_program.specs.Texts.{stop_line, required_line, column_line, large_line}
-use Rattle.ot_program.specs.World.{World, Every}
+use Rattle.ot_program.specs.World.{World, Every, is_standard}
 use Rattle.ot_program.specs.declared.status.Status.{Status}
 use Rattle.ot_program.specs.declared.status.Status.TheVariants.{Refused, NoFile}
 
@@ -46,11 +45,6 @@ pub data FindStop : Type 0 where
   InRun : Stop → FindStop
   InPattern : RefusedLine → FindStop
 
--- a stop as one of the search
-abbrev pub stops_as : {A E F : Type 0} → (E → F) → Result A E → Result A F
-stops_as f (Ok x) = Ok x
-stops_as f (Err e) = Err (f e)
-
 -- the runs of packages, one after another, each alone
 abbrev pub package_runs : List ℕ → Folder → List (List ℕ) → Result (List PackageRun) Stop
 package_runs packages folder [] = Ok []
@@ -59,26 +53,19 @@ package_runs packages folder (full ∷ fulls) =
     package_runs packages folder fulls >>= λ more.
     Ok (record { name = full; ran = ran } ∷ more)
 
--- what is required comes first, then the run of the input, the pattern under its notation, and the runs of the
--- packages
-abbrev pub search : (pattern : List ℕ) → Result (List (List ℕ)) Refusal → Result Noted Stop
-    → (List (List ℕ) → Result (List PackageRun) Stop) → Result Searched FindStop
-search pattern fulls ran runs =
-    stops_as InRequired fulls >>= λ fs.
-    stops_as InRun ran >>= λ n.
-    stops_as InPattern (at_line 1 (term_read (notation n) pattern)) >>= λ p.
-    stops_as InRun (runs fs) >>= λ ps.
-    Ok (record { noted = n; pattern = p; packages = ps })
-
 -- the full names of the packages that an input requires: a theory file may require some, an article requires none
 abbrev pub required_at : (packages path : List ℕ) → Folder → Result (List (List ℕ)) Refusal
 required_at packages path folder =
     if is_theory path then required folder limits.theory_bytes packages path else Ok []
 
+-- what is required comes first, then the run of the input, the pattern under its notation, and the runs of the packages
 abbrev pub find_at : (packages pattern path : List ℕ) → World → Result Searched FindStop
-find_at packages pattern path world =
-    search pattern (required_at packages path world.folder) (noted_at packages path world)
-    (package_runs packages world.folder)
+find_at packages pattern path world = do
+  fulls ← stops_as InRequired (required_at packages path world.folder)
+  n ← stops_as InRun (noted_at packages path world)
+  p ← stops_as InPattern (at_line 1 (term_read (notation n) pattern))
+  runs ← stops_as InRun (package_runs packages world.folder fulls)
+  Ok (record { noted = n; pattern = p; packages = runs })
 
 -- the required packages in their order, and the input last
 abbrev pub sources : (path : List ℕ) → Searched → List Source

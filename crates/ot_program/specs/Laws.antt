@@ -2,10 +2,9 @@
 use Rattle.std.specs.Prelude.{List, ℕ, IfOk}
 use Rattle.std.specs.List.{All}
 use Rattle.ot_program.specs.World.{World}
-use Rattle.ot_program.specs.Tasks.{TaskValue}
+use Rattle.ot_program.specs.Tasks.{TaskValue, command}
 use Rattle.ot_program.specs.Command.{run_lists, IsProved}
 use Rattle.ot_program.specs.FindPattern.{find_at}
-use Rattle.ot_program.specs.Reply.{command}
 
 -- where a task ends, the theorems of what it ends with are derivable from its assumptions, under its definitions, which
 -- are accepted; a search's packages too

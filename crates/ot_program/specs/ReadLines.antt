@@ -1,5 +1,5 @@
 -- The command `read`.
-use Rattle.std.specs.Prelude.{ℕ, List, length, nat_le, Result, Ok, Err, ◌≡◌, ◌⊎◌, MatchBool}
+use Rattle.std.specs.Prelude.{ℕ, List, length, nat_le, Result, Ok, ◌≡◌, ◌⊎◌, MatchBool}
 use Rattle.ot_io.specs.Folder.{Folder, bytes_at}
 use Rattle.ot_link.specs.Stops.{Stop}
 use Rattle.ot_logic.specs.Answers.{◌>>=◌, some_or, unless}
@@ -11,11 +11,9 @@ use Rattle.ot_read.specs.Laws.{StandFor, IsFirstRefused}
 use Rattle.ot_read.specs.Lines.{RefusedLine, lines_read, sequent_lines}
 use Rattle.ot_theory.specs.Lines.{LineText, lines_of as text_lines}
 use Rattle.ot_program.specs.Command.{run_lists, LastOf, IsInputPath, HasNoStop, Command}
-use Rattle.ot_program.specs.Runs.{Noted, noted, noted_at, opened_noted, notation}
-use Rattle.ot_program.specs.Runs.{stop_status, IsInputStop}
-use Rattle.ot_program.specs.Tasks.{is_standard}
+use Rattle.ot_program.specs.Runs.{Noted, noted_at, opened_noted, notation, stop_status, stops_as, IsInputStop}
 use Rattle.ot_program.specs.Texts.{stop_line, column_line, missing_line, large_line, large_text_line}
-use Rattle.ot_program.specs.World.{World, Every}
+use Rattle.ot_program.specs.World.{World, Every, is_standard}
 use Rattle.ot_program.specs.declared.status.Status.{Status}
 use Rattle.ot_program.specs.declared.status.Status.TheVariants.{Refused, NoFile}
 
@@ -39,25 +37,18 @@ text_in text folder = do
   _ ← unless TextTooLarge (nat_le (length bytes) text_limit)
   Ok bytes
 
--- what lines stand for under the notation of a run, by how they are read
-abbrev pub readings : Noted → List LineText → Result (List (Sequent Name)) RefusedLine → Result Readings ReadStop
-readings n ls (Ok qs) = Ok (record { noted = n; lines = ls; sequents = qs })
-readings n ls (Err refused) = Err (InLine refused)
-
-abbrev pub read_under : Noted → List LineText → Result Readings ReadStop
-read_under n ls = readings n ls (lines_read (notation n) ls)
-
--- the text of a path under it
+-- behind the run the text comes first, then its lines under the notation of the run
 abbrev pub read_in : Noted → List ℕ → Folder → Result Readings ReadStop
-read_in n text folder = text_in text folder >>= λ bytes. read_under n (text_lines bytes)
+read_in n text folder = do
+  bytes ← text_in text folder
+  qs ← stops_as InLine (lines_read (notation n) (text_lines bytes))
+  Ok (record { noted = n; lines = text_lines bytes; sequents = qs })
 
--- the run comes first, then the text
-abbrev pub read_behind : List ℕ → Folder → Result Noted Stop → Result Readings ReadStop
-read_behind text folder (Ok n) = read_in n text folder
-read_behind text folder (Err stop) = Err (InInput stop)
-
+-- the run of the input comes before both
 abbrev pub read_at : (packages path text : List ℕ) → World → Result Readings ReadStop
-read_at packages path text world = read_behind text world.folder (noted_at packages path world)
+read_at packages path text world = do
+  n ← stops_as InInput (noted_at packages path world)
+  read_in n text world.folder
 
 -- ---- its halts
 

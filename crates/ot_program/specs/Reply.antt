@@ -1,14 +1,7 @@
 -- What the program answers to words, files and input.
 use Rattle.std.specs.Prelude.{ℕ, List, [], Option, Some, None, Result, Ok, Err, if◌then◌else◌}
-use Rattle.ot_program.specs.CheckLog.{check_log}
 use Rattle.ot_program.specs.Command.{Command}
-use Rattle.ot_program.specs.FindPattern.{find_pattern}
-use Rattle.ot_program.specs.ReadLines.{read_lines}
-use Rattle.ot_program.specs.RunInput.{run_input}
-use Rattle.ot_program.specs.Samples.{run_sample, make_sample}
-use Rattle.ot_program.specs.ShowReadable.{show_readable}
-use Rattle.ot_program.specs.Tasks.{TaskValue, RunInput, RunSample, MakeSample, CheckLog, ShowReadable, ReadLines}
-use Rattle.ot_program.specs.Tasks.{FindPattern, task_of}
+use Rattle.ot_program.specs.Tasks.{TaskValue, task_of, command}
 use Rattle.ot_program.specs.Texts.{usage_line}
 use Rattle.ot_program.specs.World.{World}
 use Rattle.ot_program.specs.declared.status.Status.{Status}
@@ -19,16 +12,6 @@ pub record Reply : Type 0 where
   pub output : List ℕ
   pub error : List ℕ
   pub status : Status
-
--- the command of a task
-abbrev pub command : TaskValue → Command
-command (RunInput packages path view) = run_input packages path view
-command (RunSample n) = run_sample n
-command (MakeSample n) = make_sample n
-command (CheckLog path) = check_log path
-command (ShowReadable packages path) = show_readable packages path
-command (ReadLines packages path text) = read_lines packages path text
-command (FindPattern packages pattern path) = find_pattern packages pattern path
 
 -- a text for standard output where the input is accepted, and else a line for standard error
 abbrev pub accepted : List ℕ → Reply

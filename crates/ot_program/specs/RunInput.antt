@@ -13,9 +13,9 @@ use Rattle.ot_uses.specs.Suffices.{IsSupported}
 use Rattle.ot_uses.specs.Texts.{uses_text}
 use Rattle.ot_uses.specs.Used.{support_of}
 use Rattle.ot_program.specs.Command.{run_lists, LeavesOther, LastInput, IsInputPath, Command}
-use Rattle.ot_program.specs.Runs.{run_at, opened_at, assumptions_of}
-use Rattle.ot_program.specs.Runs.{definitions_of, exports_of, stop_status, IsInputStop}
-use Rattle.ot_program.specs.Tasks.{is_standard}
+use Rattle.ot_program.specs.Runs.{run_at, opened_at, assumptions_of, definitions_of, exports_of, stop_status}
+use Rattle.ot_program.specs.Runs.{IsInputStop}
+use Rattle.ot_program.specs.World.{is_standard}
 use Rattle.ot_program.specs.Texts.{stop_line, large_line, large_article_line, large_log_line}
 use Rattle.ot_program.specs.declared.task.View.{View}
 use Rattle.ot_program.specs.declared.task.View.TheVariants.{Counts, Summary, Uses, Article, Log}

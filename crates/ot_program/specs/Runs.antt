@@ -1,5 +1,5 @@
 -- The run of an input, and of an input with its notation.
-use Rattle.std.specs.Prelude.{ℕ, List, [], ◌∷◌, ◌++◌, map, Result, Ok, if◌then◌else◌, ◌≡◌, MatchBool}
+use Rattle.std.specs.Prelude.{ℕ, List, [], ◌∷◌, ◌++◌, map, Result, Ok, Err, if◌then◌else◌, ◌≡◌, MatchBool}
 use Rattle.ot_args.specs.Grammar.{is_theory}
 use Rattle.ot_io.specs.Folder.{Folder, bytes_at}
 use Rattle.ot_link.specs.Blocks.{Ran, article_end}
@@ -16,8 +16,7 @@ use Rattle.ot_machine.specs.Run.{Outcome, run}
 use Rattle.ot_machine.specs.States.{State, no_context, fresh_article, fresh_run}
 use Rattle.ot_pretty.specs.Summary.{hidden_in_run}
 use Rattle.ot_scan.specs.Lines.{lines_of}
-use Rattle.ot_program.specs.Tasks.{is_standard}
-use Rattle.ot_program.specs.World.{World}
+use Rattle.ot_program.specs.World.{World, is_standard}
 use Rattle.ot_program.specs.declared.status.Status.{Status}
 use Rattle.ot_program.specs.declared.status.Status.TheVariants.{Refused, NoFile}
 
@@ -117,6 +116,11 @@ stop_status (InTheory path number fault) = Refused
 stop_status (InStructure path number fault) = Refused
 stop_status (TooLarge path) = Refused
 stop_status (Missing path) = NoFile
+
+-- an answer whose stop is one of more kinds
+abbrev pub stops_as : {A E F : Type 0} → (E → F) → Result A E → Result A F
+stops_as f (Ok x) = Ok x
+stops_as f (Err e) = Err (f e)
 
 -- a stop in the article of this path, or that it isn't there
 abbrev pub IsOwnStop : List ℕ → Stop → Type 0

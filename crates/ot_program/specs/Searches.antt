@@ -1,6 +1,6 @@
 -- How the parts of a search end. Only contracts of private functions and proofs speak of it.
-use Rattle.std.specs.Prelude.{◌≡◌, ◌≢◌, ◌∷◌, ◌++◌, ℕ, true, List, [], map, length, nat_le, Result, Ok, Err, Vec}
-use Rattle.std.specs.Prelude.{MatchBool, IfOk, IfErr, OnOk, String, string_bytes}
+use Rattle.std.specs.Prelude.{◌≡◌, ◌≢◌, ◌∷◌, ◌++◌, ℕ, true, List, [], map, Option, Some, None, Result, Ok, Err, Vec}
+use Rattle.std.specs.Prelude.{IfOk, IfErr, OnOk, IsSomeAnd, String, string_bytes}
 use Rattle.std.specs.Global.{Global}
 use Rattle.std.specs.List.{All}
 use Rattle.ot_logic.specs.Lists.{IsMember}
@@ -21,26 +21,25 @@ use Rattle.ot_machine.specs.declared.session.Session.{Session}
 use Rattle.ot_forms.specs.Refusals.{ReadsAsTerm}
 use Rattle.ot_read.specs.Lines.{at_line, term_read}
 use Rattle.ot_find.specs.Matches.{Source, Found, AreMatches, matches, matches_in, exports_of as all_exports}
-use Rattle.ot_find.specs.Texts.{HasFound, find_text}
+use Rattle.ot_find.specs.Texts.{HasFound}
 use Rattle.ot_find.specs.declared.search.Search.{Search}
-use Rattle.ot_program.specs.Texts.{stop_line, required_line, column_line, large_line, read_fault_line}
+use Rattle.ot_program.specs.Texts.{stop_line, required_line, column_line, read_fault_line}
 use Rattle.ot_program.specs.World.{World, Every}
-use Rattle.ot_program.specs.Tasks.{ShowReadable, FindPattern}
-use Rattle.ot_program.specs.Runs.{limits, theory_run, notation, exports_of, Noted, stop_status}
-use Rattle.ot_program.specs.Runs.{IsInputStop}
-use Rattle.ot_program.specs.Command.{run_lists, IsProved}
+use Rattle.ot_program.specs.Tasks.{ShowReadable, FindPattern, command}
+use Rattle.ot_program.specs.Runs.{limits, theory_run, notation, exports_of, Noted, stop_status, IsInputStop}
+use Rattle.ot_program.specs.Command.{run_lists, IsProved, End, Stopped, Failed}
 use Rattle.ot_program.specs.FindPattern.{PackageRun, Searched, package_runs, required_at, sources, found, pattern_path}
 use Rattle.ot_program.specs.FindPattern.{required_status, find_status, find_line, IsSearch, IsFindStop, IsPatternStop}
-use Rattle.ot_program.specs.Reply.{fails, command}
+use Rattle.ot_program.specs.Reply.{fails}
 use Rattle.ot_program.specs.Answer.{IsResult}
 use Rattle.ot_program.specs.declared.status.Status.{Status}
-use Rattle.ot_program.specs.declared.status.Status.TheVariants.{Accepted, Refused, NoFile, ReadFault}
+use Rattle.ot_program.specs.declared.status.Status.TheVariants.{Refused, NoFile, ReadFault}
 use Rattle.ot_program.specs.declared.report.Verdict.{Verdict}
 use Rattle.ot_program.specs.declared.noted.NotedRun.{NotedRun}
 use Rattle.ot_program.specs.declared.finding.Ending.{Ending}
 use Rattle.ot_program.specs.declared.finding.Ending.TheVariants as endings
 use Rattle.ot_program.specs.Endings.{noted_of}
-use Rattle.ot_program.specs.Verdicts.{IsSaid}
+use Rattle.ot_program.specs.Verdicts.{IsSaid, IsVerdictBy}
 
 -- ---- the search for a pattern
 
@@ -62,21 +61,21 @@ abbrev pub IfEnded : (Verdict → Type 0) → Ending → Type 0
 IfEnded P (endings.Said v) = P v
 IfEnded P (endings.Memory memory) = Unit {0}
 
--- the verdict on a walk over packages that was refused so; none where memory ran out
+-- the end that the fault of a walk over packages stands for; none where memory ran out
+abbrev pub walk_end : RepoFault → Option (End ⊥ repo.Refusal)
+walk_end (repos.Theory path line fault) = Some (Stopped (repo.Theory (string_bytes path) line fault))
+walk_end (repos.TheoryTooLarge path) = Some (Stopped (repo.TheoryTooLarge (string_bytes path)))
+walk_end (repos.IndexTooLarge path) = Some (Stopped (repo.IndexTooLarge (string_bytes path)))
+walk_end (repos.BadIndex path line) = Some (Stopped (repo.BadIndex (string_bytes path) line))
+walk_end (repos.NotInstalled path line) = Some (Stopped (repo.NotInstalled (string_bytes path) line))
+walk_end (repos.RequiresCycle path line) = Some (Stopped (repo.RequiresCycle (string_bytes path) line))
+walk_end (repos.NoFile path) = Some (Stopped (repo.Missing (string_bytes path)))
+walk_end (repos.ReadFault path) = Some (Failed (string_bytes path))
+walk_end (repos.Memory memory) = None
+
+-- the verdict on a walk that was refused so
 abbrev pub IsWalkVerdict : RepoFault → Verdict → Type 0
-IsWalkVerdict (repos.Theory path line fault) v =
-    IsSaid v Refused (required_line (repo.Theory (string_bytes path) line fault))
-IsWalkVerdict (repos.TheoryTooLarge path) v =
-    IsSaid v Refused (required_line (repo.TheoryTooLarge (string_bytes path)))
-IsWalkVerdict (repos.IndexTooLarge path) v = IsSaid v Refused (required_line (repo.IndexTooLarge (string_bytes path)))
-IsWalkVerdict (repos.BadIndex path line) v = IsSaid v Refused (required_line (repo.BadIndex (string_bytes path) line))
-IsWalkVerdict (repos.NotInstalled path line) v =
-    IsSaid v Refused (required_line (repo.NotInstalled (string_bytes path) line))
-IsWalkVerdict (repos.RequiresCycle path line) v =
-    IsSaid v Refused (required_line (repo.RequiresCycle (string_bytes path) line))
-IsWalkVerdict (repos.NoFile path) v = IsSaid v NoFile (required_line (repo.Missing (string_bytes path)))
-IsWalkVerdict (repos.ReadFault path) v = IsSaid v ReadFault (read_fault_line (string_bytes path))
-IsWalkVerdict (repos.Memory memory) v = ⊥
+IsWalkVerdict e v = IsSomeAnd (walk_end e) (IsVerdictBy (λ x w. ⊥) required_status required_line v)
 
 -- what is required, or the runs of packages, are these in each folder that may be
 abbrev pub AnswersIn : {A : Type 0} → (May : Folder → Type 0) → (Folder → A) → A → Type 0
@@ -254,9 +253,3 @@ pub record EndsSearch (packages pattern path : List ℕ) (result : Result Search
   pub ended : IfErr result
       (IfEnded (λ v. HasEndedSearch packages pattern path InputFails FileFails MissRose v May))
   pub searched : IfOk result (λ search. HasSearched packages pattern path search May)
-
--- the text of matches is printed
-abbrev pub FoundEndsAs : (path : List ℕ) → List Found → Verdict → Type 0
-FoundEndsAs path fs v =
-    MatchBool (nat_le (length (find_text fs)) summary_limit)
-    (IsSaid v Accepted (find_text fs)) (IsSaid v Refused (large_line path))

@@ -4,9 +4,9 @@ use Rattle.ot_logic.specs.Limits.{summary_limit}
 use Rattle.ot_link.specs.Stops.{Stop}
 use Rattle.ot_pretty.specs.Summary.{readable_summary, ReadBack}
 use Rattle.ot_program.specs.Command.{run_lists, LeavesOther, LastInput, IsInputPath, Command}
-use Rattle.ot_program.specs.Runs.{assumptions_of, exports_of, Noted, noted_at, opened_noted, notation}
-use Rattle.ot_program.specs.Runs.{stop_status, IsInputStop}
-use Rattle.ot_program.specs.Tasks.{is_standard}
+use Rattle.ot_program.specs.Runs.{assumptions_of, exports_of, Noted, noted_at, opened_noted, notation, stop_status}
+use Rattle.ot_program.specs.Runs.{IsInputStop}
+use Rattle.ot_program.specs.World.{is_standard}
 use Rattle.ot_program.specs.Texts.{stop_line, large_line}
 
 -- its assumptions and theorems in readable form

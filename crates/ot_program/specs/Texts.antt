@@ -76,22 +76,22 @@ fault_text BadTypeVars = codes "bad type variable list"
 fault_text Nesting = codes "nested deeper than 4096"
 
 -- the text of a fault in the grammar of a theory file
-abbrev pub theory_text : TheoryFault → List ℕ
-theory_text theory.BadLine = codes "bad line"
-theory_text theory.BadBlock = codes "bad block"
-theory_text theory.DuplicateBlock = codes "duplicate block"
-theory_text theory.TwoSources = codes "second article or package"
-theory_text theory.NoMain = codes "no block main"
-theory_text theory.BadInterpret = codes "bad interpretation"
-theory_text theory.DuplicateInterpret = codes "duplicate interpretation"
+abbrev pub theory_fault_text : TheoryFault → List ℕ
+theory_fault_text theory.BadLine = codes "bad line"
+theory_fault_text theory.BadBlock = codes "bad block"
+theory_fault_text theory.DuplicateBlock = codes "duplicate block"
+theory_fault_text theory.TwoSources = codes "second article or package"
+theory_fault_text theory.NoMain = codes "no block main"
+theory_fault_text theory.BadInterpret = codes "bad interpretation"
+theory_fault_text theory.DuplicateInterpret = codes "duplicate interpretation"
 
 -- the text of a fault in what the blocks of a theory file ask for
-abbrev pub structure_text : StructureFault → List ℕ
-structure_text structure.UnknownImport = codes "unknown import"
-structure_text structure.BadPackageName = codes "bad package name"
-structure_text structure.ImportCycle = codes "import cycle"
-structure_text structure.PackageCycle = codes "package cycle"
-structure_text structure.PackageDepth = codes "packages nested deeper than 16"
+abbrev pub structure_fault_text : StructureFault → List ℕ
+structure_fault_text structure.UnknownImport = codes "unknown import"
+structure_fault_text structure.BadPackageName = codes "bad package name"
+structure_fault_text structure.ImportCycle = codes "import cycle"
+structure_fault_text structure.PackageCycle = codes "package cycle"
+structure_fault_text structure.PackageDepth = codes "packages nested deeper than 16"
 
 -- the line for a text about a path
 abbrev pub line_of : List ℕ → List ℕ → List ℕ
@@ -164,14 +164,14 @@ missing_line path = line_of path (codes "no such file")
 -- the line for a run that stops so, with the path of the file that has the fault
 abbrev pub stop_line : Stop → List ℕ
 stop_line (InArticle path number fault) = fault_line path number fault
-stop_line (InTheory path number fault) = line_at path number (theory_text fault)
-stop_line (InStructure path number fault) = line_at path number (structure_text fault)
+stop_line (InTheory path number fault) = line_at path number (theory_fault_text fault)
+stop_line (InStructure path number fault) = line_at path number (structure_fault_text fault)
 stop_line (TooLarge path) = large_theory_line path
 stop_line (Missing path) = missing_line path
 
 -- the line for packages that are refused so
 abbrev pub required_line : Refusal → List ℕ
-required_line (repo.Theory path number fault) = line_at path number (theory_text fault)
+required_line (repo.Theory path number fault) = line_at path number (theory_fault_text fault)
 required_line (repo.TheoryTooLarge path) = large_theory_line path
 required_line (repo.IndexTooLarge path) = line_of path (codes "package list longer than 1048576 bytes")
 required_line (repo.BadIndex path number) = line_at path number (codes "bad package name")

@@ -1,5 +1,6 @@
 -- Files and standard input, and what was read of them.
-use Rattle.std.specs.Prelude.{◌≡◌, ◌⊎◌, ◌++◌, ℕ, List, Bool, true, Option, IfSome}
+use Rattle.std.specs.Prelude.{◌≡◌, ◌⊎◌, ◌++◌, ℕ, List, Bool, true, codes, Option, IfSome}
+use Rattle.std.specs.Str.{bytes_eq}
 use Rattle.std.specs.Io.KnownBytes.{Consumes, IsAtEnd}
 use Rattle.ot_io.specs.Folder.{Folder}
 use Rattle.ot_io.specs.Reading.{MayFollow}
@@ -9,6 +10,10 @@ use Rattle.ot_io.specs.Readings.{Readings, Agrees}
 pub record World : Type 0 where
   pub folder : Folder
   pub input : List ℕ
+
+-- `-` is standard input; any other name is a file's
+abbrev pub is_standard : List ℕ → Bool
+is_standard path = bytes_eq path (codes "-")
 
 -- what was read: of files, and of standard input, perhaps to its end
 pub record WasRead : Type 0 where

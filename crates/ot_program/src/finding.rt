@@ -2,6 +2,7 @@
 ghost use Rattle.std.specs.Prelude.{◌≡◌, ◌⊎◌, ◌++◌, List, [], true};
 ghost use Rattle.std.specs.Prelude.{map, string_bytes, IfOk, IfErr, OnOk};
 ghost use Rattle.std.specs.List.{All};
+ghost use Rattle.ot_logic.specs.Limits.{summary_limit};
 ghost use Rattle.ot_logic.specs.PlainTrees.{term_of_tree};
 ghost use Rattle.ot_logic.specs.RanOut.{ran_out};
 ghost use Rattle.ot_io.specs.Causes.{CountRose};
@@ -11,18 +12,19 @@ ghost use Rattle.ot_blocks.specs.Paths.{is_package};
 ghost use Rattle.ot_machine.specs.Meaning.{run_of, IsRun, IsExportIn};
 ghost use Rattle.ot_machine.specs.States.{fresh_run};
 ghost use Rattle.ot_find.specs.Matches.{Found, matches_in};
+ghost use Rattle.ot_find.specs.Texts.{find_text};
 ghost use Rattle.ot_repo.specs.Answers.{ArePackages, names_of};
 ghost use Rattle.ot_print.specs.Laws.{TextsNameOne};
-ghost use Rattle.ot_program.specs.World.{HasReadWorld, HasReadFolder, EachTold};
-ghost use Rattle.ot_program.specs.Tasks.{FindPattern, is_standard};
+ghost use Rattle.ot_program.specs.World.{HasReadWorld, HasReadFolder, EachTold, is_standard};
+ghost use Rattle.ot_program.specs.Tasks.{FindPattern};
 ghost use Rattle.ot_program.specs.Runs.{exports_of};
 ghost use Rattle.ot_program.specs.Command.{run_lists, IsProved, LeavesOther, LastInput};
 ghost use Rattle.ot_program.specs.FindPattern.{pattern_path};
 ghost use Rattle.ot_program.specs.Answer.{FileFailed, ClosesFiles};
-ghost use Rattle.ot_program.specs.Texts.{column_line};
+ghost use Rattle.ot_program.specs.Texts.{column_line, large_line};
 ghost use Rattle.ot_program.specs.Endings.{noted_of, ran_from};
-ghost use Rattle.ot_program.specs.Verdicts.{IsSaid, IsTaskVerdict};
-ghost use Rattle.ot_program.specs.Searches.{ending_of, IfEnded, EndsSearch, EndsBehind, FoundEndsAs, HasMatches, IsPattern};
+ghost use Rattle.ot_program.specs.Verdicts.{IsSaid, IsPrinted, IsTaskVerdict};
+ghost use Rattle.ot_program.specs.Searches.{ending_of, IfEnded, EndsSearch, EndsBehind, HasMatches, IsPattern};
 ghost use Rattle.ot_program.specs.Searches.{IsWalkVerdict, HasEndedPattern, EndsWalk, EndsInput, EndsRun, EndsRuns};
 
 use crate::input::{fresh_session, run_theory_file};
@@ -31,7 +33,7 @@ use crate::report::{
     Verdict, accepted, failed, missing, proved, refused, stopped, theorems_of, too_large,
 };
 use crate::status::Status;
-use crate::texts::{column_line, line_at, line_of, theory_text};
+use crate::texts::{column_line, line_at, line_of, theory_fault_text};
 use ot_args::is_theory;
 use ot_blocks::package_path;
 use ot_find::{PrintFault, Search, find_law};
@@ -228,7 +230,7 @@ fn walk_verdict(alloc: Global, fault: RepoFault) -> Result<Verdict, Memory>
 {
     match fault {
         RepoFault::Theory { path, line, fault } => {
-            Ok(refused(line_at(alloc, &path, line, theory_text(fault))?))
+            Ok(refused(line_at(alloc, &path, line, theory_fault_text(fault))?))
         }
         RepoFault::TheoryTooLarge { path } => {
             Ok(refused(line_of(alloc, &path, "theory longer than 1048576 bytes")?))
@@ -428,7 +430,8 @@ fn search_exports(
 
 /// The matches of a search, or the line for a text that is too large.
 fn found_verdict(alloc: Global, path: &str, search: Search) -> Result<Verdict, Memory>
-    ensures ends { (fs : List Found) → HasMatches search fs → IfOk result (FoundEndsAs path.now fs) }
+    ensures ends { (fs : List Found) → HasMatches search fs → IfOk result
+        (IsPrinted summary_limit (find_text fs) (large_line path.now)) }
     ensures one_text { TextsNameOne }
 {
     one_text();

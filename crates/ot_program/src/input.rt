@@ -8,14 +8,13 @@ ghost use Rattle.ot_link.specs.Blocks.{article_end};
 ghost use Rattle.ot_link.specs.Answers.{AreExportsIn, NamesSymbolIn};
 ghost use Rattle.ot_machine.specs.States.{fresh_run};
 ghost use Rattle.ot_machine.specs.Meaning.{run_of, IsRun};
-ghost use Rattle.ot_program.specs.World.{HasReadWorld, HasReadFolder, EachTold};
-ghost use Rattle.ot_program.specs.Tasks.{is_standard};
+ghost use Rattle.ot_program.specs.World.{HasReadWorld, HasReadFolder, EachTold, is_standard};
 ghost use Rattle.ot_program.specs.Runs.{outcome, article_run};
-ghost use Rattle.ot_program.specs.Command.{LeavesOther};
+ghost use Rattle.ot_program.specs.Command.{LeavesOther, IsAnswer};
 ghost use Rattle.ot_program.specs.Answer.{FileFailed, ClosesFiles};
-ghost use Rattle.ot_program.specs.Endings.{job_task, end_of, IsAnswer, HasTaskEnd, HasOwnCause, HasTheoryEnd};
-ghost use Rattle.ot_program.specs.Verdicts.{IsLawfulEnd};
-ghost use Rattle.ot_program.specs.Reply.{command};
+ghost use Rattle.ot_program.specs.Endings.{end_of, HasTaskEnd, HasOwnCause, HasTheoryEnd};
+ghost use Rattle.ot_program.specs.Tasks.{job_task, command};
+ghost use Rattle.ot_program.specs.Verdicts.{IsLawfulEnds};
 
 use crate::task::Job;
 use ot_args::is_theory;
@@ -55,7 +54,7 @@ pub fn run_input<F: Files, S: Source>(
         (CountRose (F.misses files.old) (F.misses files.new)) e May))) }
     ensures session { IsRun session.new }
     ensures exports { IfOk result (AreExportsIn session.new) }
-    ensures lawful { IfOk result (IsLawfulEnd session.new) }
+    ensures lawful { IfOk result (λ exports. IsLawfulEnds session.new exports.items) }
     ensures symbols { IfErr result (NamesSymbolIn session.new.kernel) }
     ensures files { ClosesFiles F.folder F.faults F.misses F.left files.old files.new }
     ensures source { KeepsSource S.folder S.faults S.misses S.at input.old input.new }
@@ -89,7 +88,7 @@ pub fn run_theory_file<F: Files>(
         (CountRose (F.misses files.old) (F.misses files.new)) e May)) }
     ensures session { IsRun session.new }
     ensures exports { IfOk result (AreExportsIn session.new) }
-    ensures lawful { IfOk result (IsLawfulEnd session.new) }
+    ensures lawful { IfOk result (λ exports. IsLawfulEnds session.new exports.items) }
     ensures symbols { IfErr result (NamesSymbolIn session.new.kernel) }
     ensures files { ClosesFiles F.folder F.faults F.misses F.left files.old files.new }
     ensures closed { F.left files.new ≡ Some [] }
@@ -111,7 +110,7 @@ fn run_article_file<F: Files>(
         IfSome (end_of session.new result) (IsAnswer (article_run path.now folder).answer)) }
     ensures session { IsRun session.new }
     ensures exports { IfOk result (AreExportsIn session.new) }
-    ensures lawful { IfOk result (IsLawfulEnd session.new) }
+    ensures lawful { IfOk result (λ exports. IsLawfulEnds session.new exports.items) }
     ensures symbols { IfErr result (NamesSymbolIn session.new.kernel) }
     ensures cause { IfSome (end_of session.new result)
         (HasOwnCause path.now (CountRose (F.faults files.old) (F.faults files.new))
@@ -150,7 +149,7 @@ pub fn run_article_from<S: Source>(
         IfSome (end_of session.new result) (IsAnswer (article_end path.now (outcome bytes)))) }
     ensures session { IsRun session.new }
     ensures exports { IfOk result (AreExportsIn session.new) }
-    ensures lawful { IfOk result (IsLawfulEnd session.new) }
+    ensures lawful { IfOk result (λ exports. IsLawfulEnds session.new exports.items) }
     ensures symbols { IfErr result (NamesSymbolIn session.new.kernel) }
     ensures cause { IfSome (end_of session.new result)
         (HasOwnCause path.now (CountRose (S.faults source.old) (S.faults source.new)) ⊥) }

@@ -1,4 +1,4 @@
-//! The check of the log of a path.
+//! The check of the log of a path, and what is said of it.
 ghost use Rattle.std.specs.Prelude.{◌≡◌, ℕ, List, IsOk, IfOk, IfSome, true};
 ghost use Rattle.ot_io.specs.Causes.{CountRose};
 ghost use Rattle.ot_io.specs.Folder.{path_asked};
@@ -6,18 +6,21 @@ ghost use Rattle.ot_io.specs.Keeping.{KeepsSource};
 ghost use Rattle.ot_io.specs.Reading.{HasRead};
 ghost use Rattle.ot_io.specs.Readings.{HasReadFiles};
 ghost use Rattle.ot_verify.specs.Verifying.{AreProved};
-ghost use Rattle.ot_program.specs.World.{HasReadWorld, EachTold};
-ghost use Rattle.ot_program.specs.Tasks.{CheckLog, is_standard};
-ghost use Rattle.ot_program.specs.Command.{LeavesOther};
-ghost use Rattle.ot_program.specs.CheckLog.{check_bytes, check_file, log_status};
+ghost use Rattle.ot_program.specs.World.{HasReadWorld, EachTold, is_standard};
+ghost use Rattle.ot_program.specs.Tasks.{CheckLog, command};
+ghost use Rattle.ot_program.specs.Command.{LeavesOther, IsAnswer, HasCause};
+ghost use Rattle.ot_program.specs.CheckLog.{check_bytes, check_file, log_status, log_end_of};
 ghost use Rattle.ot_program.specs.Answer.{FileFailed, ClosesFiles};
-ghost use Rattle.ot_program.specs.Endings.{log_end_of, IsAnswer, HasCause, HasTaskEnd};
-ghost use Rattle.ot_program.specs.Reply.{command};
+ghost use Rattle.ot_program.specs.Endings.{HasTaskEnd};
+ghost use Rattle.ot_program.specs.Verdicts.{IsVerdictOf, EndsAs};
 
 use crate::input::STANDARD;
+use crate::report::{Verdict, accepted, failed, missing, refused, too_large};
+use crate::texts::{line_at, log_fault_text};
 use ot_io::{Files, OpenFault, Source};
 use ot_logic::{Limits, Memory};
-use ot_verify::{LogFault, Verified, VerifyFault, verify};
+use ot_print::one_text;
+use ot_verify::{LogFault, Verified, VerifiedText, VerifyFault, verify};
 use std::alloc::Global;
 
 /// Why the log of a path isn't accepted.
@@ -98,5 +101,41 @@ fn check_source<S: Source>(alloc: Global, source: &mut S) -> Result<Verified, Lo
         Err(VerifyFault::At { line, fault }) => Err(LogRefusal::At { line, fault }),
         Err(VerifyFault::ReadFault) => Err(LogRefusal::ReadFault),
         Err(VerifyFault::Memory(memory)) => Err(LogRefusal::Memory(memory)),
+    }
+}
+
+/// The verdict on the log of a path that was checked so.
+pub fn log_verdict(
+    alloc: Global,
+    path: &str,
+    checked: Result<Verified, LogRefusal>,
+) -> Result<Verdict, Memory>
+    requires { IfOk checked AreProved }
+    ensures { IfOk result (IsVerdictOf (CheckLog path.now) (log_end_of path.now checked)) }
+{
+    match checked {
+        Ok(verified) => {
+            one_text();
+            log_summary(alloc, path, &verified)
+        }
+        Err(LogRefusal::At { line, fault }) => {
+            Ok(refused(line_at(alloc, path, line, log_fault_text(fault))?))
+        }
+        Err(LogRefusal::NoFile) => missing(alloc, path),
+        Err(LogRefusal::ReadFault) => failed(alloc, path),
+        Err(LogRefusal::Memory(memory)) => Err(memory),
+    }
+}
+
+/// The summary of what a log proves, or the line for a summary that is too large.
+fn log_summary(alloc: Global, path: &str, verified: &Verified) -> Result<Verdict, Memory>
+    ensures { IfOk result (EndsAs (CheckLog path.now) verified.now) }
+{
+    let max = Limits::standard().summary_bytes;
+    let mut text = Vec::new(alloc);
+    match verified.text(alloc, max, &mut text) {
+        Ok(()) => Ok(accepted(text)),
+        Err(VerifiedText::TooLarge) => too_large(alloc, path),
+        Err(VerifiedText::Memory(memory)) => Err(memory),
     }
 }

@@ -7,20 +7,18 @@ ghost use Rattle.ot_args.specs.Grammar.{texts_of, command_of};
 ghost use Rattle.ot_program.specs.World.{HasReadWorld, EachTold};
 ghost use Rattle.ot_machine.specs.Meaning.{run_of, IsRun};
 ghost use Rattle.ot_machine.specs.States.{fresh_run};
-ghost use Rattle.ot_program.specs.Tasks.{task_of, ShowReadable};
-ghost use Rattle.ot_program.specs.Answer.{IsAnswered, WritesLine, FileFailed, NoFileIsAsked, LeavesUnasked};
-ghost use Rattle.ot_program.specs.Answer.{ClosesFiles};
-ghost use Rattle.ot_program.specs.Endings.{task_value, job_task, IsSized};
-ghost use Rattle.ot_program.specs.Verdicts.{IsTaskVerdict, IsSilent, WritesText, Ends, error_line};
-ghost use Rattle.ot_program.specs.Reply.{command};
+ghost use Rattle.ot_program.specs.Tasks.{task_of, ShowReadable, task_value, job_task, IsSized, command};
+ghost use Rattle.ot_program.specs.Answer.{IsAnswered, Outputs, SaysWhy, WritesLine, FileFailed, NoFileIsAsked};
+ghost use Rattle.ot_program.specs.Answer.{LeavesUnasked, ClosesFiles};
+ghost use Rattle.ot_program.specs.Verdicts.{IsTaskVerdict, Ends, said_line};
 
 use crate::finding::{Query, run_finding};
 use crate::input::{fresh_session, run_input};
-use crate::log::check_log;
+use crate::log::{check_log, log_verdict};
 use crate::noted::run_noted;
 use crate::readable::readable_verdict;
 use crate::reading::run_reading;
-use crate::report::{Verdict, log_verdict, verdict_on};
+use crate::report::{Verdict, verdict_on};
 use crate::sample::{make_sample, run_sample};
 use crate::status::Status;
 use crate::task::{Job, Task, read_task};
@@ -218,11 +216,9 @@ fn readable_in<F: Files, S: Source>(
 fn finish<O: Sink, E: Sink>(out: &mut O, err: &mut E, verdict: &Verdict) -> Status
     requires { verdict.now.status ≢ Status.WriteFault }
     ensures ends { Ends verdict.now.status result }
-    ensures writes { WritesText result (O.written out.old) (O.written out.new) verdict.now.text.items }
-    ensures silent { IsSilent result → out.new ≡ out.old }
-    ensures flushed { result ≡ Status.Accepted → FlushesAll (O.flushed out.old) (O.written out.new) (O.flushed out.new) }
-    ensures quiet { result ≡ Status.Accepted → err.new ≡ err.old }
-    ensures line { IfSome (error_line verdict.now.text.items result) (WritesLine E.written E.faults err.old err.new) }
+    ensures outputs { Outputs result O.written O.flushed out.old out.new (λ text. text ≡ verdict.now.text.items) }
+    ensures says { SaysWhy result E.written E.faults err.old err.new
+        (λ line. line ≡ said_line result verdict.now.text.items) }
     ensures write { result ≡ Status.WriteFault → CountRose (O.faults out.old) (O.faults out.new) }
     ensures sinks { (O.faults out.old ≤ O.faults out.new) × (E.faults err.old ≤ E.faults err.new) }
 {

@@ -6,8 +6,9 @@ ghost use Rattle.ot_link.specs.Answers.{NamesSymbolIn};
 ghost use Rattle.ot_machine.specs.Meaning.{IsRun, IsExportIn};
 ghost use Rattle.ot_program.specs.Tasks.{ShowReadable};
 ghost use Rattle.ot_program.specs.ShowReadable.{readable, AreReadBack};
+ghost use Rattle.ot_program.specs.Texts.{large_line};
 ghost use Rattle.ot_program.specs.Endings.{noted_from, noted_end_of};
-ghost use Rattle.ot_program.specs.Verdicts.{IsVerdictOf, ReadableEndsAs};
+ghost use Rattle.ot_program.specs.Verdicts.{IsVerdictOf, IsPrinted};
 
 use crate::noted::NotedRun;
 use crate::report::{Verdict, accepted, proved, stopped, theorems_of, too_large};
@@ -43,8 +44,8 @@ pub fn readable_verdict(
 fn summary(alloc: Global, path: &str, session: &Session, run: &NotedRun) -> Result<Verdict, Memory>
     requires session { IsRun session.now }
     requires exports { All (IsExportIn session.now) run.now.exports.items }
-    ensures ends { IfOk result
-        (ReadableEndsAs path.now (noted_from run.now.names.items session.now run.now.exports.items)) }
+    ensures ends { IfOk result (IsPrinted summary_limit
+        (readable (noted_from run.now.names.items session.now run.now.exports.items)) (large_line path.now)) }
     ensures read_back { OnOk result
         (nat_le (length (readable (noted_from run.now.names.items session.now run.now.exports.items))) summary_limit
         ≡ true

@@ -1,6 +1,7 @@
 //! The lines of a readable text, read under the notation of a run.
 ghost use Rattle.std.specs.Prelude.{◌≡◌, ℕ, List, Ok, map, IfOk, IfErr, IfSome};
 ghost use Rattle.std.specs.List.{All};
+ghost use Rattle.ot_logic.specs.Limits.{summary_limit};
 ghost use Rattle.ot_io.specs.Causes.{CountRose};
 ghost use Rattle.ot_io.specs.Folder.{path_asked};
 ghost use Rattle.ot_io.specs.Keeping.{KeepsFiles, KeepsSource};
@@ -10,15 +11,16 @@ ghost use Rattle.ot_machine.specs.States.{fresh_run};
 ghost use Rattle.ot_parse.specs.Plain.{sequent_of};
 ghost use Rattle.ot_theory.specs.Lines.{lines_of};
 ghost use Rattle.ot_read.specs.Laws.{StandFor};
-ghost use Rattle.ot_read.specs.Lines.{lines_read, IsLineRefusal};
+ghost use Rattle.ot_read.specs.Lines.{lines_read, sequent_lines, IsLineRefusal};
 ghost use Rattle.ot_program.specs.World.{HasReadWorld};
-ghost use Rattle.ot_program.specs.Tasks.{ReadLines};
+ghost use Rattle.ot_program.specs.Tasks.{ReadLines, command};
 ghost use Rattle.ot_program.specs.Runs.{notation};
 ghost use Rattle.ot_program.specs.ReadLines.{read_in, text_in};
+ghost use Rattle.ot_program.specs.Texts.{large_line};
 ghost use Rattle.ot_program.specs.Answer.{FileFailed, ClosesFiles};
-ghost use Rattle.ot_program.specs.Endings.{noted_of, read_end_of, IsAnswer, IsTextRefusal, IsTextCause, IsLineCause};
-ghost use Rattle.ot_program.specs.Verdicts.{IsVerdictOf, IsPrintedAs, IsTaskVerdict};
-ghost use Rattle.ot_program.specs.Reply.{command};
+ghost use Rattle.ot_program.specs.Endings.{noted_of, read_end_of, IsTextRefusal, IsTextCause, IsLineCause};
+ghost use Rattle.ot_program.specs.Command.{IsAnswer};
+ghost use Rattle.ot_program.specs.Verdicts.{IsVerdictOf, IsPrinted, IsTaskVerdict};
 
 use crate::input::fresh_session;
 use crate::noted::{NotedRun, run_noted};
@@ -260,7 +262,7 @@ fn reading_verdict(
 
 /// The printed texts of sequents that were read, or the line for a text that is too large.
 fn printed(alloc: Global, path: &str, sequents: &[Readable]) -> Result<Verdict, Memory>
-    ensures { IfOk result (IsPrintedAs path.now (map sequent_of sequents.now)) }
+    ensures { IfOk result (IsPrinted summary_limit (sequent_lines (map sequent_of sequents.now)) (large_line path.now)) }
 {
     match sequents_text(alloc, sequents, Limits::standard().summary_bytes) {
         Ok(text) => Ok(accepted(text)),

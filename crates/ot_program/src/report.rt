@@ -1,40 +1,36 @@
 ghost use Rattle.std.specs.Prelude.{◌≡◌, ◌++◌, true, false, [], map};
 ghost use Rattle.std.specs.Prelude.{IfOk, IfErr, IfSome, IfNone, IsSomeAnd, OnOk};
 ghost use Rattle.std.specs.List.{All};
+ghost use Rattle.ot_logic.specs.Limits.{summary_limit, written_limit};
 ghost use Rattle.ot_link.specs.Answers.{AreExportsIn, NamesSymbolIn};
 ghost use Rattle.ot_machine.specs.Meaning.{IsRun, IsExportIn};
 ghost use Rattle.ot_print.specs.Laws.{TextsNameOne};
-ghost use Rattle.ot_verify.specs.Verifying.{AreProved};
 ghost use Rattle.ot_logic.specs.Naming.{names};
 ghost use Rattle.ot_logic.specs.Hol.{Accepted as AcceptedLists};
 ghost use Rattle.ot_sample.specs.Sample.{sample};
-ghost use Rattle.ot_program.specs.Tasks.{RunSample, CheckLog};
+ghost use Rattle.ot_program.specs.Tasks.{RunSample, job_task};
 ghost use Rattle.ot_program.specs.Command.{run_lists, IsProved};
-ghost use Rattle.ot_program.specs.RunInput.{line_of_counts, article_text, article_fits, log_fits, run_fits};
-ghost use Rattle.ot_program.specs.RunInput.{IsRewritten, IsLogged, IsPromisedIn, AreSupported};
+ghost use Rattle.ot_program.specs.RunInput.{line_of_counts, summary, uses, article_text, article_fits, log_text};
+ghost use Rattle.ot_program.specs.RunInput.{log_fits, run_fits, IsRewritten, IsLogged, IsPromisedIn, AreSupported};
 ghost use Rattle.ot_program.specs.Samples.{sample_front, sample_back, line_count};
-ghost use Rattle.ot_program.specs.Texts.{large_line, large_article_line};
-ghost use Rattle.ot_program.specs.Texts.{large_log_line, missing_line, read_fault_line};
-ghost use Rattle.ot_program.specs.Endings.{job_task, ran_from, AreCounts, end_at, end_of, log_end_of};
-ghost use Rattle.ot_program.specs.Verdicts.{IsVerdictOf, IsStopVerdict, IsSaid, EndsAs, SummaryEndsAs, UsesEndsAs};
-ghost use Rattle.ot_program.specs.Verdicts.{ArticleEndsAs, LogEndsAs, IsLawfulEnd, IsLawfulEnds};
+ghost use Rattle.ot_program.specs.Texts.{large_line, large_article_line, large_log_line, missing_line, read_fault_line};
+ghost use Rattle.ot_program.specs.Endings.{ran_from, AreCounts, end_at, end_of};
+ghost use Rattle.ot_program.specs.Verdicts.{IsVerdictOf, IsStopVerdict, IsSaid, IsPrinted, EndsAs, IsLawfulEnds};
 
-use crate::log::LogRefusal;
 use crate::sample::SAMPLE;
 use crate::status::Status;
 use crate::task::{Job, View};
-use crate::texts::{fault_line, line_at, line_of, log_fault_text, structure_text, theory_text};
+use crate::texts::{fault_line, line_at, line_of, structure_fault_text, theory_fault_text};
 use ot_args::Sections;
 use ot_kernel::{Kernel, ThmId};
 use ot_laws::growth_law;
 use ot_link::LinkFault;
-use ot_log::{LogRefusal as WriterRefusal, write_log};
+use ot_log::{LogRefusal, write_log};
 use ot_logic::{Limits, Memory};
 use ot_machine::{Export, Session};
 use ot_minimise::minimise;
 use ot_print::{PrintFault, one_text, summary_text};
 use ot_uses::{uses_law, uses_text};
-use ot_verify::{Verified, VerifiedText};
 use ot_write::WriteRefusal;
 use std::alloc::{AllocError, Global};
 
@@ -54,7 +50,7 @@ pub fn verdict_on(
 ) -> Result<Verdict, Memory>
     requires session { IsRun session.now }
     requires exports { IfOk ran (AreExportsIn session.now) }
-    requires lawful { IfOk ran (IsLawfulEnd session.now) }
+    requires lawful { IfOk ran (λ exports. IsLawfulEnds session.now exports.items) }
     requires symbols { IfErr ran (NamesSymbolIn session.now.kernel) }
     ensures { IfOk result (IsVerdictOf (job_task job.entry) (end_of session.now ran)) }
 {
@@ -64,29 +60,6 @@ pub fn verdict_on(
             ended(alloc, job, session, &exports)
         }
         Err(stop) => stopped(alloc, session.kernel(), stop),
-    }
-}
-
-/// The verdict on the log of a path that was checked so.
-pub fn log_verdict(
-    alloc: Global,
-    path: &str,
-    checked: Result<Verified, LogRefusal>,
-) -> Result<Verdict, Memory>
-    requires { IfOk checked AreProved }
-    ensures { IfOk result (IsVerdictOf (CheckLog path.now) (log_end_of path.now checked)) }
-{
-    match checked {
-        Ok(verified) => {
-            one_text();
-            log_summary(alloc, path, &verified)
-        }
-        Err(LogRefusal::At { line, fault }) => {
-            Ok(refused(line_at(alloc, path, line, log_fault_text(fault))?))
-        }
-        Err(LogRefusal::NoFile) => missing(alloc, path),
-        Err(LogRefusal::ReadFault) => failed(alloc, path),
-        Err(LogRefusal::Memory(memory)) => Err(memory),
     }
 }
 
@@ -112,10 +85,10 @@ pub fn stopped(alloc: Global, kernel: &Kernel, stop: LinkFault) -> Result<Verdic
             Ok(refused(fault_line(alloc, kernel, &path, line, fault)?))
         }
         LinkFault::Theory { path, line, fault } => {
-            Ok(refused(line_at(alloc, &path, line, theory_text(fault))?))
+            Ok(refused(line_at(alloc, &path, line, theory_fault_text(fault))?))
         }
         LinkFault::Structure { path, line, fault } => {
-            Ok(refused(line_at(alloc, &path, line, structure_text(fault))?))
+            Ok(refused(line_at(alloc, &path, line, structure_fault_text(fault))?))
         }
         LinkFault::TheoryTooLarge { path } => {
             Ok(refused(line_of(alloc, &path, "theory longer than 1048576 bytes")?))
@@ -244,7 +217,8 @@ fn summary(
 ) -> Result<Verdict, Memory>
     requires session { IsRun session.now }
     requires exports { All (IsExportIn session.now) exports.now }
-    ensures { IfOk result (SummaryEndsAs path.now sections (ran_from session.now exports.now)) }
+    ensures { IfOk result
+        (IsPrinted summary_limit (summary sections (ran_from session.now exports.now)) (large_line path.now)) }
 {
     let theorems = theorems_of(alloc, exports)?;
     let limit = Limits::standard().summary_bytes;
@@ -268,7 +242,7 @@ fn uses(alloc: Global, path: &str, session: &Session, exports: &[Export]) -> Res
     requires session { IsRun session.now }
     requires exports { All (IsExportIn session.now) exports.now }
     requires lawful { IsLawfulEnds session.now exports.now }
-    ensures ends { IfOk result (UsesEndsAs path.now (ran_from session.now exports.now)) }
+    ensures ends { IfOk result (IsPrinted summary_limit (uses (ran_from session.now exports.now)) (large_line path.now)) }
     ensures supported { OnOk result (AreSupported (ran_from session.now exports.now)) }
 {
     uses_law();
@@ -291,7 +265,8 @@ fn written(
     requires session { IsRun session.now }
     requires exports { All (IsExportIn session.now) exports.now }
     requires lawful { IsLawfulEnds session.now exports.now }
-    ensures ends { IfOk result (ArticleEndsAs path.now (ran_from session.now exports.now)) }
+    ensures ends { IfOk result
+        (IsPrinted written_limit (article_text (ran_from session.now exports.now)) (large_article_line path.now)) }
     ensures rewritten { OnOk result (let r = ran_from session.now exports.now in article_fits r ≡ true → IsRewritten r) }
 {
     match article_of(alloc, session, exports)? {
@@ -341,15 +316,16 @@ fn logged(
     requires session { IsRun session.now }
     requires exports { All (IsExportIn session.now) exports.now }
     requires lawful { IsLawfulEnds session.now exports.now }
-    ensures ends { IfOk result (LogEndsAs path.now (ran_from session.now exports.now)) }
+    ensures ends { IfOk result
+        (IsPrinted written_limit (log_text (ran_from session.now exports.now)) (large_log_line path.now)) }
     ensures logged { OnOk result (let r = ran_from session.now exports.now in log_fits r ≡ true → IsLogged r) }
 {
     let limit = Limits::standard().written_bytes;
     let mut text = Vec::new(alloc);
     match write_log(alloc, session, exports, limit, &mut text) {
         Ok(()) => Ok(accepted(text)),
-        Err(WriterRefusal::TooLarge) => Ok(large_log(alloc, path)?),
-        Err(WriterRefusal::Memory(memory)) => Err(memory),
+        Err(LogRefusal::TooLarge) => Ok(large_log(alloc, path)?),
+        Err(LogRefusal::Memory(memory)) => Err(memory),
     }
 }
 
@@ -383,7 +359,7 @@ pub fn sample_verdict(
     requires session { IsRun session.now }
     requires made { made.now ≡ sample size }
     requires exports { IfOk ran (AreExportsIn session.now) }
-    requires lawful { IfOk ran (IsLawfulEnd session.now) }
+    requires lawful { IfOk ran (λ exports. IsLawfulEnds session.now exports.items) }
     requires symbols { IfErr ran (NamesSymbolIn session.now.kernel) }
     ensures { IfOk result (IsVerdictOf (RunSample size) (end_of session.now ran)) }
 {
@@ -467,19 +443,6 @@ fn sample_back(
         "{assumptions} assumptions, {definitions} definitions; minimised {minimised} lines\n"
     )?;
     Ok(line.into_bytes())
-}
-
-/// The summary of what a log proves, or the line for a summary that is too large.
-fn log_summary(alloc: Global, path: &str, verified: &Verified) -> Result<Verdict, Memory>
-    ensures { IfOk result (EndsAs (CheckLog path.now) verified.now) }
-{
-    let max = Limits::standard().summary_bytes;
-    let mut text = Vec::new(alloc);
-    match verified.text(alloc, max, &mut text) {
-        Ok(()) => Ok(accepted(text)),
-        Err(VerifiedText::TooLarge) => too_large(alloc, path),
-        Err(VerifiedText::Memory(memory)) => Err(memory),
-    }
 }
 
 /// The numbers of the theorems that are exported, in order.

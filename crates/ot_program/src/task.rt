@@ -1,8 +1,7 @@
 //! What a command does.
 ghost use Rattle.std.specs.Prelude.{◌≡◌, ◌≢◌, None, IfOk, OnOk, OnErr};
 ghost use Rattle.ot_args.specs.Grammar.{texts_of, command_of};
-ghost use Rattle.ot_program.specs.Tasks.{task_of};
-ghost use Rattle.ot_program.specs.Endings.{task_answer, task_value, IsSized};
+ghost use Rattle.ot_program.specs.Tasks.{task_of, task_answer, task_value, IsSized};
 
 use ot_args::{Command, Sections, Usage};
 
@@ -62,8 +61,7 @@ pub enum Task<'a> {
 impl<'a> Task<'a> {
     ghost use Rattle.std.specs.Prelude.{◌≡◌};
     ghost use Rattle.ot_args.specs.Grammar.{command_value};
-    ghost use Rattle.ot_program.specs.Tasks.{task};
-    ghost use Rattle.ot_program.specs.Endings.{task_value};
+    ghost use Rattle.ot_program.specs.Tasks.{task, task_value};
 
     /// What a command does.
     pub fn of(command: Command<'a>) -> Task<'a>

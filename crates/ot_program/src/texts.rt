@@ -7,7 +7,7 @@ ghost use Rattle.ot_term.specs.Symbols.{symbol_of};
 ghost use Rattle.ot_machine.specs.Faults.{fault_of};
 ghost use Rattle.ot_machine.specs.Answers.{IsSymbolIn};
 ghost use Rattle.ot_verify.specs.Taking.{fault_of as log_fault_of};
-ghost use Rattle.ot_program.specs.Texts.{kind_text, symbol_text, fault_text, theory_text, structure_text};
+ghost use Rattle.ot_program.specs.Texts.{kind_text, symbol_text, fault_text, theory_fault_text, structure_fault_text};
 ghost use Rattle.ot_program.specs.Texts.{log_fault_text, reading_fault_text, column_line, line_of, line_at, fault_line};
 ghost use Rattle.ot_program.specs.Wording.{kind_word, line_start};
 
@@ -50,8 +50,8 @@ pub fn line_at(alloc: Global, path: &str, number: u64, text: &str) -> Result<Vec
 }
 
 /// The text of a fault in the grammar of a theory file.
-pub fn theory_text(fault: TheoryFault) -> &'static str
-    ensures { result.now ≡ theory_text fault }
+pub fn theory_fault_text(fault: TheoryFault) -> &'static str
+    ensures { result.now ≡ theory_fault_text fault }
 {
     match fault {
         TheoryFault::BadLine => "bad line",
@@ -65,8 +65,8 @@ pub fn theory_text(fault: TheoryFault) -> &'static str
 }
 
 /// The text of a fault in what the blocks of a theory file ask for.
-pub fn structure_text(fault: StructureFault) -> &'static str
-    ensures { result.now ≡ structure_text fault }
+pub fn structure_fault_text(fault: StructureFault) -> &'static str
+    ensures { result.now ≡ structure_fault_text fault }
 {
     match fault {
         StructureFault::UnknownImport => "unknown import",
@@ -138,7 +138,7 @@ pub fn fault_line(
 {
     let mut line = line_start(alloc, path, number)?;
     add_fault(alloc, kernel, fault, &mut line)?;
-    add(&mut line, "\n")?;
+    add_text(&mut line, "\n")?;
     Ok(line)
 }
 
@@ -175,37 +175,37 @@ fn add_fault(alloc: Global, kernel: &Kernel, fault: Fault, out: &mut Vec<u8>) ->
         (IsSomeAnd (fault_of (name_at kernel.now) fault) (λ f. out.new.items ≡ out.old.items ++ fault_text f)) }
 {
     match fault {
-        Fault::LineTooLong => add(out, "line longer than 65535 bytes"),
-        Fault::ArticleTooLong => add(out, "article longer than 4294967296 bytes"),
-        Fault::UnknownCommand => add(out, "unknown command"),
-        Fault::BadName => add(out, "bad name"),
-        Fault::BadNumber => add(out, "bad number"),
-        Fault::NumberRange => add(out, "number out of range"),
+        Fault::LineTooLong => add_text(out, "line longer than 65535 bytes"),
+        Fault::ArticleTooLong => add_text(out, "article longer than 4294967296 bytes"),
+        Fault::UnknownCommand => add_text(out, "unknown command"),
+        Fault::BadName => add_text(out, "bad name"),
+        Fault::BadNumber => add_text(out, "bad number"),
+        Fault::NumberRange => add_text(out, "number out of range"),
         Fault::VersionUnsupported(k) => add_number(alloc, "version ", k, " unsupported", out),
-        Fault::VersionLate => add(out, "version command in a wrong place"),
-        Fault::StackEmpty => add(out, "stack empty"),
+        Fault::VersionLate => add_text(out, "version command in a wrong place"),
+        Fault::StackEmpty => add_text(out, "stack empty"),
         Fault::WrongKind(wanted, found) => add_kinds(wanted, found, out),
         Fault::NoEntry(k) => add_number(alloc, "no entry ", k, "", out),
-        Fault::EmptyList => add(out, "empty list"),
-        Fault::NotFunction => add(out, "not a function"),
-        Fault::ArgumentType => add(out, "argument of another type"),
-        Fault::NotBool => add(out, "not of type bool"),
-        Fault::NotEquation => add(out, "not an equation"),
-        Fault::NotAlphaEqual => add(out, "terms differ"),
-        Fault::VarFreeInHyps => add(out, "variable free in a hypothesis"),
-        Fault::NotRedex => add(out, "not a beta redex"),
-        Fault::BadSubst => add(out, "bad substitution list"),
-        Fault::ExportMismatch => add(out, "theorem differs from the stated sequent"),
+        Fault::EmptyList => add_text(out, "empty list"),
+        Fault::NotFunction => add_text(out, "not a function"),
+        Fault::ArgumentType => add_text(out, "argument of another type"),
+        Fault::NotBool => add_text(out, "not of type bool"),
+        Fault::NotEquation => add_text(out, "not an equation"),
+        Fault::NotAlphaEqual => add_text(out, "terms differ"),
+        Fault::VarFreeInHyps => add_text(out, "variable free in a hypothesis"),
+        Fault::NotRedex => add_text(out, "not a beta redex"),
+        Fault::BadSubst => add_text(out, "bad substitution list"),
+        Fault::ExportMismatch => add_text(out, "theorem differs from the stated sequent"),
         Fault::Primitive(symbol) => add_about(kernel, "primitive symbol ", symbol, "", out),
         Fault::AlreadyDefined(symbol) => add_about(kernel, "", symbol, " is defined already", out),
         Fault::SymbolInUse(symbol) => add_about(kernel, "", symbol, " is in use", out),
-        Fault::NotClosed => add(out, "free variable in a definition"),
-        Fault::TypeVarEscapes => add(out, "type variable not in the type of the constant"),
-        Fault::BadDefinitionList => add(out, "definition list and hypotheses disagree"),
-        Fault::HypothesesPresent => add(out, "theorem has hypotheses"),
-        Fault::NotApplication => add(out, "conclusion is not an application"),
-        Fault::BadTypeVars => add(out, "bad type variable list"),
-        Fault::Nesting => add(out, "nested deeper than 4096"),
+        Fault::NotClosed => add_text(out, "free variable in a definition"),
+        Fault::TypeVarEscapes => add_text(out, "type variable not in the type of the constant"),
+        Fault::BadDefinitionList => add_text(out, "definition list and hypotheses disagree"),
+        Fault::HypothesesPresent => add_text(out, "theorem has hypotheses"),
+        Fault::NotApplication => add_text(out, "conclusion is not an application"),
+        Fault::BadTypeVars => add_text(out, "bad type variable list"),
+        Fault::Nesting => add_text(out, "nested deeper than 4096"),
         Fault::Memory(_) => unreachable!(),
     }
 }
@@ -221,7 +221,7 @@ fn add_number(
     ensures { OnOk result (out.new.items ≡ out.old.items ++ (before.now ++ signed_decimal number ++ after.now)) }
 {
     let text = format!(in alloc; "{before}{number}{after}")?;
-    add(out, text.as_str())
+    add_text(out, text.as_str())
 }
 
 /// Appends a symbol between two texts.
@@ -237,9 +237,9 @@ fn add_about(
         ≡ out.old.items
         ++ (before.now ++ symbol_text (map_symbol (name_at kernel.now) (symbol_of symbol)) ++ after.now)) }
 {
-    add(out, before)?;
+    add_text(out, before)?;
     add_symbol(kernel, symbol, out)?;
-    add(out, after)
+    add_text(out, after)
 }
 
 /// Appends that another kind is wanted than was found.
@@ -247,10 +247,10 @@ fn add_kinds(wanted: Kind, found: Kind, out: &mut Vec<u8>) -> Result<(), Memory>
     ensures { OnOk result (out.new.items
         ≡ out.old.items ++ (codes "wanted " ++ kind_text wanted ++ codes ", found " ++ kind_text found)) }
 {
-    add(out, "wanted ")?;
-    add(out, kind_text(wanted))?;
-    add(out, ", found ")?;
-    add(out, kind_text(found))
+    add_text(out, "wanted ")?;
+    add_text(out, kind_text(wanted))?;
+    add_text(out, ", found ")?;
+    add_text(out, kind_text(found))
 }
 
 /// Appends a symbol: which of the two it is, and how its name is spelled.
@@ -259,7 +259,7 @@ fn add_symbol(kernel: &Kernel, symbol: Symbol, out: &mut Vec<u8>) -> Result<(), 
     ensures { OnOk result
         (out.new.items ≡ out.old.items ++ symbol_text (map_symbol (name_at kernel.now) (symbol_of symbol))) }
 {
-    add(out, kind_word(symbol.kind))?;
+    add_text(out, kind_word(symbol.kind))?;
     kernel.names().get(symbol.name).spell(out)
 }
 
@@ -274,7 +274,7 @@ fn kind_word(kind: SymbolKind) -> &'static str
 }
 
 /// Appends a text.
-fn add(out: &mut Vec<u8>, text: &str) -> Result<(), Memory>
+fn add_text(out: &mut Vec<u8>, text: &str) -> Result<(), Memory>
     ensures { OnOk result (out.new.items ≡ out.old.items ++ text.now) }
 {
     out.extend_from_slice(text.as_bytes())?;

@@ -5,7 +5,8 @@ use Rattle.ot_io.specs.Causes.{CountRose}
 use Rattle.ot_blocks.specs.Paths.{package_path}
 use Rattle.ot_program.specs.World.{HasReadFolder}
 use Rattle.ot_program.specs.Answer.{FileFailed}
-use Rattle.ot_program.specs.Endings.{end_at, ran_from, Finished, HasTheoryEnd}
+use Rattle.ot_program.specs.Endings.{end_at, ran_from, HasTheoryEnd}
+use Rattle.ot_program.specs.Command.{Finished}
 use Rattle.ot_program.proofs.Worlds.{folder_map}
 use Rattle.ot_program.proofs.FindingLemmas.{run_searched, run_stopped}
 use Rattle.ot_program.proofs.finding.package_in.Goals as goal

@@ -1,6 +1,6 @@
 use Rattle.std.proofs.Common.{◌≡◌, ◌∙◌, ap, sym, inl, inr, true, false, rules}
 use Rattle.ot_args.specs.Grammar.{is_theory}
-use Rattle.ot_program.specs.Tasks.{is_standard}
+use Rattle.ot_program.specs.World.{is_standard}
 use Rattle.ot_program.proofs.InputLemmas.{limits_are, no_standard}
 use Rattle.ot_program.proofs.Worlds.{told_by}
 use Rattle.ot_program.proofs.FindingLemmas.{walk_found, walk_refused_in, article_walk, theory_ending}

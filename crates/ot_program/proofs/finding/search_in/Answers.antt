@@ -2,7 +2,7 @@ use Rattle.std.proofs.Common.{◌≡◌, ℕ, List, [], true}
 use Rattle.std.proofs.lemmas.Result.{err_from_is_err_and}
 use Rattle.ot_io.specs.Causes.{CountRose}
 use Rattle.ot_repo.specs.Answers.{names_of}
-use Rattle.ot_program.specs.Tasks.{is_standard}
+use Rattle.ot_program.specs.World.{is_standard}
 use Rattle.ot_program.specs.Answer.{FileFailed}
 use Rattle.ot_program.proofs.NotedLemmas.{leaves, keeps, rose_later, file_later}
 use Rattle.ot_program.proofs.FindingLemmas.{walk_ends_search, input_ends_search, search_ends_search, theory_last_of}

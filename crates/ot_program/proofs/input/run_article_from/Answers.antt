@@ -4,7 +4,8 @@ use Rattle.ot_io.specs.Causes.{CountRose}
 use Rattle.ot_io.specs.Reading.{HasRead}
 use Rattle.ot_link.specs.Blocks.{article_end}
 use Rattle.ot_program.specs.Runs.{outcome}
-use Rattle.ot_program.specs.Endings.{end_of, IsAnswer, HasOwnCause}
+use Rattle.ot_program.specs.Endings.{end_of, HasOwnCause}
+use Rattle.ot_program.specs.Command.{IsAnswer}
 use Rattle.ot_program.proofs.InputLemmas.{alone_ran, alone_cause, lawful_end}
 use Rattle.ot_program.proofs.input.run_article_from.Goals as goal
 

@@ -2,7 +2,7 @@ use Rattle.std.proofs.Common.{◌≡◌, true, false, sym}
 use Rattle.ot_args.specs.Grammar.{is_theory}
 use Rattle.ot_io.specs.Causes.{CountRose}
 use Rattle.ot_io.specs.Folder.{path_asked}
-use Rattle.ot_program.specs.Tasks.{is_standard}
+use Rattle.ot_program.specs.World.{is_standard}
 use Rattle.ot_program.specs.Answer.{FileFailed}
 use Rattle.ot_program.specs.Endings.{end_of}
 use Rattle.ot_program.proofs.InputLemmas.{standard_ran, theory_task_ran, file_ran, no_standard}

@@ -1,6 +1,6 @@
 use Rattle.std.proofs.Common.{◌≡◌, false, sym}
 use Rattle.ot_io.specs.Causes.{CountRose}
-use Rattle.ot_program.specs.Tasks.{is_standard}
+use Rattle.ot_program.specs.World.{is_standard}
 use Rattle.ot_program.specs.Answer.{FileFailed}
 use Rattle.ot_program.proofs.LogLemmas.{standard_checked, file_checked}
 use Rattle.ot_program.proofs.TaskEnds.{asked_last}

@@ -3,9 +3,11 @@ use Rattle.std.specs.Prelude.{Some}
 use Rattle.ot_logic.specs.Names.{Name}
 use Rattle.ot_io.specs.Causes.{CountRose}
 use Rattle.ot_args.specs.Grammar.{is_theory}
-use Rattle.ot_program.specs.Tasks.{ShowReadable, is_standard}
+use Rattle.ot_program.specs.Tasks.{ShowReadable}
+use Rattle.ot_program.specs.World.{is_standard}
 use Rattle.ot_program.specs.Answer.{FileFailed}
-use Rattle.ot_program.specs.Endings.{Finished, ran_from, noted_from, noted_end_of, end_at, HasTaskEnd}
+use Rattle.ot_program.specs.Endings.{ran_from, noted_from, noted_end_of, end_at, HasTaskEnd}
+use Rattle.ot_program.specs.Command.{Finished}
 use Rattle.ot_program.specs.declared.task.View.TheVariants.{Counts}
 use Rattle.ot_program.proofs.InputLemmas.{no_standard}
 use Rattle.ot_program.proofs.NotedLemmas.{theory_noted_ran, article_noted, theory_leaves, theory_last}

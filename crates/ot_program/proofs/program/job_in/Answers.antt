@@ -1,7 +1,8 @@
 use Rattle.std.proofs.Common.{ℕ, List}
 use Rattle.ot_io.specs.Causes.{CountRose}
 use Rattle.ot_program.specs.Answer.{FileFailed}
-use Rattle.ot_program.specs.Endings.{job_task, end_of}
+use Rattle.ot_program.specs.Endings.{end_of}
+use Rattle.ot_program.specs.Tasks.{job_task}
 use Rattle.ot_program.proofs.Worlds.{world_map}
 use Rattle.ot_program.proofs.VerdictLemmas.{task_verdict, last_path}
 use Rattle.ot_program.proofs.program.job_in.Goals as goal

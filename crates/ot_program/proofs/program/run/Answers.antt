@@ -2,7 +2,7 @@ use Rattle.std.proofs.Common.{◌≡◌, ◌⊎◌, inr, refl, sym, subst}
 use Rattle.ot_args.specs.Grammar.{texts_of}
 use Rattle.ot_io.specs.Causes.{CountRose}
 use Rattle.ot_program.specs.Answer.{FileFailed, NoFileIsAsked}
-use Rattle.ot_program.specs.Endings.{task_value}
+use Rattle.ot_program.specs.Tasks.{task_value}
 use Rattle.ot_program.proofs.Worlds.{world_map, world_none}
 use Rattle.ot_program.proofs.ReplyLemmas.{is_answered, memory_answered, usage_answered}
 use Rattle.ot_program.proofs.ReplyLemmas.{no_write_fault, used_right}
@@ -22,7 +22,7 @@ returns-in-Ok-run_task-clause-answered g c =
     (g.F.Source.faults c.run_task.new.files)
     (CountRose (g.F.Source.misses c.args.files.now) (g.F.Source.misses c.run_task.new.files))
     (CountRose (g.O.Sink.faults c.args.out.now) (g.O.Sink.faults c.finish.new.out)) (sym c.in-Ok.ensures.task)
-    verdict.says verdict.missing out.ends out.writes out.silent out.flushed out.quiet out.line out.write)
+    verdict.says verdict.missing out.ends out.outputs out.says out.write)
     (c.in-Ok-run_task.ensures.verdict told
     (subst (λ t. NoFileIsAsked t ⊎ (told ≡ g.F.Source.folder c.args.files.now)) (sym c.in-Ok.ensures.task) may))
 

@@ -3,7 +3,7 @@ use Rattle.std.proofs.lemmas.Result.{err_from_is_err_and}
 use Rattle.ot_io.specs.Causes.{CountRose}
 use Rattle.ot_program.specs.Tasks.{RunSample, MakeSample, CheckLog}
 use Rattle.ot_program.specs.Answer.{FileFailed}
-use Rattle.ot_program.specs.Endings.{log_end_of}
+use Rattle.ot_program.specs.CheckLog.{log_end_of}
 use Rattle.ot_program.proofs.Options.{ok_always}
 use Rattle.ot_program.proofs.Worlds.{is_told, world_map, world_none}
 use Rattle.ot_program.proofs.VerdictLemmas.{task_verdict, last_path, unfailing}

@@ -4,7 +4,8 @@ use Rattle.ot_logic.specs.Names.{Name}
 use Rattle.ot_logic.specs.Limits.{summary_limit}
 use Rattle.ot_program.specs.ShowReadable.{readable, AreReadBack}
 use Rattle.ot_program.specs.Endings.{noted_from}
-use Rattle.ot_program.specs.Verdicts.{ReadableEndsAs}
+use Rattle.ot_program.specs.Texts.{large_line}
+use Rattle.ot_program.specs.Verdicts.{IsPrinted}
 use Rattle.ot_program.proofs.RunLemmas.{exported_within}
 use Rattle.ot_program.proofs.NotedLemmas.{read_back, printed, refused, unpromised}
 use Rattle.ot_program.proofs.readable.summary.Goals as goal
@@ -22,8 +23,9 @@ returns-in-Ok-clause-ends c =
     c.deref-3.ensures.value ∙ c.in_ok-theorems.ensures ∙ ap (map (λ e. e.th)) c.deref.ensures.value in
     let limit : c.standard-limit.result.summary_bytes ≡ summary_limit =
     ap (λ l. l.summary_bytes) c.standard-limit.ensures in
-    subst (λ (ns : List Name). ReadableEndsAs c.args.path.now
-    (noted_from ns c.args.session.now c.args.run.now.exports.items) c.accepted.result)
+    subst (λ (ns : List Name). IsPrinted summary_limit
+    (readable (noted_from ns c.args.session.now c.args.run.now.exports.items)) (large_line c.args.path.now)
+    c.accepted.result)
     c.deref-2.ensures.value
     (printed c.deref-2.result.now c.args.session.now c.kernel.result.now
     c.args.run.now.exports.items c.deref-3.result.now c.requires.session c.kernel.ensures are
@@ -46,8 +48,8 @@ returns-in-Err-TooLarge-clause-ends c =
     c.deref-3.ensures.value ∙ c.in_ok-theorems.ensures ∙ ap (map (λ e. e.th)) c.deref.ensures.value in
     let limit : c.standard-limit.result.summary_bytes ≡ summary_limit =
     ap (λ l. l.summary_bytes) c.standard-limit.ensures in
-    subst (λ (ns : List Name). IfOk c.too_large.result (ReadableEndsAs c.args.path.now
-    (noted_from ns c.args.session.now c.args.run.now.exports.items)))
+    subst (λ (ns : List Name). IfOk c.too_large.result (IsPrinted summary_limit
+    (readable (noted_from ns c.args.session.now c.args.run.now.exports.items)) (large_line c.args.path.now)))
     c.deref-2.ensures.value
     (refused c.deref-2.result.now c.args.session.now c.kernel.result.now
     c.args.run.now.exports.items c.deref-3.result.now c.requires.session c.kernel.ensures are

@@ -7,7 +7,8 @@ use Rattle.ot_program.specs.World.{anywhere}
 use Rattle.ot_program.specs.Tasks.{RunSample}
 use Rattle.ot_program.specs.Runs.{outcome}
 use Rattle.ot_program.specs.Samples.{sample_path}
-use Rattle.ot_program.specs.Endings.{end_of, IsAnswer}
+use Rattle.ot_program.specs.Endings.{end_of}
+use Rattle.ot_program.specs.Command.{IsAnswer}
 use Rattle.ot_program.proofs.SampleLemmas.{sample_end}
 use Rattle.ot_program.proofs.VerdictLemmas.{task_verdict}
 use Rattle.ot_program.proofs.sample.sample_in.Goals as goal

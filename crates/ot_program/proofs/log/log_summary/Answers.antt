@@ -3,7 +3,7 @@ use Rattle.ot_logic.specs.Limits.{summary_limit}
 use Rattle.ot_verify.specs.Verifying.{proved_text}
 use Rattle.ot_program.specs.Texts.{large_line}
 use Rattle.ot_program.proofs.LimitLemmas.{text_printed, text_too_large}
-use Rattle.ot_program.proofs.report.log_summary.Goals as goal
+use Rattle.ot_program.proofs.log.log_summary.Goals as goal
 
 pub returns-in-Ok : goal.returns-in-Ok
 returns-in-Ok c =

@@ -1,5 +1,5 @@
 use Rattle.ot_program.proofs.LogLemmas.{log_ended}
-use Rattle.ot_program.proofs.report.log_verdict.Goals as goal
+use Rattle.ot_program.proofs.log.log_verdict.Goals as goal
 
 pub returns-in-Ok : goal.returns-in-Ok
 returns-in-Ok c =
